@@ -2,7 +2,6 @@
 ghost use Rattle.std.specs.Prelude.{◌≡◌, ◌+◌, ◌*◌, ◌≤◌, ◌<◌, ◌^◌, ℕ, true, nat_le, if◌then◌else◌};
 ghost use Rattle.fb_units.specs.declared.types.Track.{Track};
 ghost use Rattle.fb_geometry.specs.Shape.{IsTrackOf, slots_at};
-ghost use Rattle.fb_wanted.specs.Depth.{depth_at};
 ghost use Rattle.fb_plan.specs.Ways.{IsGap};
 ghost use Rattle.fb_detour.specs.Bounds.{distance_to, AreLeast, AreSeeks, IsEnough};
 
@@ -11,7 +10,6 @@ use fb_plan::{Scored, is_no_worse};
 use fb_rows::{Gap, Plan};
 use fb_service::Disk;
 use fb_units::{Ns, Track};
-use fb_wanted::{BAND, Wanted};
 
 // How many cylinders the cylinder lies outside a range; 0 inside it.
 fn distance_to(from: u32, end: u32, cylinder: u32) -> u32
@@ -81,21 +79,6 @@ pub fn first_track_on(cylinder: u32) -> Track
     ensures { result ≡ record { cylinder = cylinder; head = 0 } }
 {
     Track { cylinder, head: 0 }
-}
-
-// An upper bound on the weight of the wanted blocks that share one sector, over all blocks of these
-// cylinders and of one other track.
-pub fn most_depth(wanted: &Wanted, from: u32, end: u32, other: Track) -> u64
-    requires some { from < end }
-    ensures each { (track : Track) (lbn : ℕ) → from ≤ track.cylinder → track.cylinder < end → depth_at track lbn wanted.now ≤ result }
-    ensures other { (lbn : ℕ) → depth_at other lbn wanted.now ≤ result }
-    ensures small { result ≤ 16000000 * 1000 }
-{
-    let mut depth = wanted.depth_in(other.cylinder / BAND);
-    for band in from / BAND..(end - 1) / BAND + 1 {
-        depth = depth.max(wanted.depth_in(band));
-    }
-    depth
 }
 
 // How many slots a track of the zone has; 0 where the zone ends before the cylinder.

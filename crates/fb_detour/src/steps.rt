@@ -8,7 +8,7 @@ ghost use Rattle.fb_plan.specs.Ways.{AreOnDisk};
 ghost use Rattle.fb_detour.specs.Bounds.{passing, value_in, AreRated, AreSeeks, AreSmallSums, IsCeiling, IsDetourIn, IsRate, IsReach};
 ghost use Rattle.fb_detour.specs.Bounds.{IsSearch};
 
-use crate::bounds::{Seeks, first_track_on, least_moves, most_depth, most_slots};
+use crate::bounds::{Seeks, first_track_on, least_moves, most_slots};
 use crate::given::Search;
 use crate::parts::{GAP_PARTS, LateParts};
 use crate::rate::Rate;
@@ -37,7 +37,7 @@ pub fn rate_over(disk: &Disk, wanted: &Wanted, from: u32, end: u32) -> Rate
     geometry.own_places();
     let first = first_track_on(from);
     Rate {
-        depth: most_depth(wanted, from, end, first),
+        depth: wanted.greatest_depth_in(from, end),
         share: geometry.rotation() / most_slots(disk, from, end, first) as u64,
     }
 }

@@ -57,7 +57,7 @@ pub struct Wish {
     pub suspended: bool,
 }
 
-/// A disk of four or of thirty cylinders with two heads and twelve slots a track, and a gap on it.
+/// A disk with two heads and twelve slots a track, and a gap on it.
 #[derive(Clone, Copy)]
 pub struct Setting<'a> {
     /// The disk's seek table.

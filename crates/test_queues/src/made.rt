@@ -1,4 +1,4 @@
-// Many generated gaps, on a disk of four cylinders and on one of thirty.
+// Many generated gaps, on disks of one, four and thirty cylinders and on one of 100,000.
 ghost use Rattle.std.specs.Prelude.{◌<◌};
 
 use crate::gaps::{LINEAR, STEEP, Setting, Wish, answers};
@@ -23,6 +23,17 @@ const LONG: &[SeekPoint] = &[
     },
     SeekPoint {
         distance: 29,
+        time: 700,
+    },
+];
+
+const FLAT: &[SeekPoint] = &[
+    SeekPoint {
+        distance: 1,
+        time: 100,
+    },
+    SeekPoint {
+        distance: 99_999,
         time: 700,
     },
 ];
@@ -112,6 +123,10 @@ fn planners_agree(rt: HostRuntime) -> Result<(), Fail> {
     for _ in 0..200 {
         number = next_number(number);
         assert!(rt;
+            agree(rt.alloc(), LINEAR, 1, number)?,
+            "other plans: {number}"
+        );
+        assert!(rt;
             agree(rt.alloc(), LINEAR, 4, number)?,
             "other plans: {number}"
         );
@@ -121,6 +136,19 @@ fn planners_agree(rt: HostRuntime) -> Result<(), Fail> {
         );
         assert!(rt;
             agree(rt.alloc(), LONG, 30, number)?,
+            "other plans: {number}"
+        );
+    }
+    Ok(())
+}
+
+#[test]
+fn planners_agree_on_many_cylinders(rt: HostRuntime) -> Result<(), Fail> {
+    let mut number = 2;
+    for _ in 0..3 {
+        number = next_number(number);
+        assert!(rt;
+            agree(rt.alloc(), FLAT, 100_000, number)?,
             "other plans: {number}"
         );
     }

@@ -6,7 +6,7 @@ pub returns : goal.returns
 returns c = λ track low high from upto.
     let disk = c.args.disk.now in
     let entries = c.args.wanted.now in
-    let depth = c.most_depth in
+    let depth = c.greatest_depth_in in
     let slots = c.most_slots in
     let its = c.geometry-geometry.ensures in
     let rotation : c.rotation.result ≡ disk.map.rotation = c.rotation.ensures.value ∙ ap (λ (d : Shape). d.rotation) its in
