@@ -1,5 +1,5 @@
 -- Lists of lines, of which the first ones were compared.
-use Rattle.std.proofs.Common.{Bor, ◌≡◌, ℕ, ◌+◌, ◌≤◌, List, [], ◌∷◌, ◌++◌, length, map, take, drop, refl, ap, sym, subst, ◌∙◌, arith, inl}
+use Rattle.std.proofs.Common.{◌≡◌, ℕ, ◌+◌, ◌≤◌, List, [], ◌∷◌, ◌++◌, length, map, take, drop, refl, ap, sym, subst, ◌∙◌, arith, inl}
 use Rattle.std.proofs.Common.{inr, append_assoc, length-append}
 use Rattle.std.specs.Prelude.{true, is_some, Option, Some, None, slice_get, option_map}
 use Rattle.std.proofs.lemmas.List.{map-append, length-map, take-append-le, take-append-drop, take_all}
@@ -10,8 +10,10 @@ use Rattle.fb_desk.specs.declared.desk.Input.{Input}
 use Rattle.fb_report.specs.Grammar.{LineFields, ended, spelled}
 use Rattle.fb_report.specs.Reading.{BeginsLikeEnd, EndsOnce}
 use Rattle.fb_check.specs.declared.comparing.Comparison.{Comparison}
+use Rattle.fb_check.specs.declared.lines.PrintedLines.{PrintedLines}
 use Rattle.fb_check.specs.declared.verdict.Rule.{Rule}
 use Rattle.fb_check.specs.declared.verdict.Mismatch.{Mismatch}
+use Rattle.fb_check.specs.Printed.{lines_of}
 use Rattle.fb_check.specs.Verdict.{IsMismatch}
 use Rattle.fb_check.specs.Comparing.{CanCompare, IsDue, NamesLine, NextIs, OneMore, HasComparedOne, SoFar, HasCompared}
 
@@ -78,37 +80,37 @@ first_wrong lines rules due rule_by input printed index mismatch so_far named =
 
 so_far_next : (wrong : Option Mismatch) (lines : List (List ℕ)) (rules : List (ℕ → Rule)) (due : List ℕ) (rule_by : ℕ → Rule)
     (before : Comparison) (same : ℕ)
-    → SoFar None lines rules before.input before.lines.now before.same → NextIs wrong rule_by due before same
-    → SoFar wrong (lines ++ due ∷ []) (rules ++ rule_by ∷ []) before.input before.lines.now same
+    → SoFar None lines rules before.input (lines_of before.lines) before.same → NextIs wrong rule_by due before same
+    → SoFar wrong (lines ++ due ∷ []) (rules ++ rule_by ∷ []) before.input (lines_of before.lines) same
 so_far_next None lines rules due rule_by before same so_far next =
     let is_due = next.1 in
     record {
       count = omega (arith, length-append lines (due ∷ []), next.0);
       ruled = omega (arith, length-append rules (rule_by ∷ []), next.0);
-      first = ap (λ n. take n (map spelled before.lines.now)) next.0
-          ∙ (take_at (map spelled before.lines.now) before.same due
-          (slice_get-map spelled before.lines.now before.same ∙ (ap (option_map spelled) is_due.is_printed ∙ ap Some (sym is_due.is_due)))
+      first = ap (λ n. take n (map spelled (lines_of before.lines))) next.0
+          ∙ (take_at (map spelled (lines_of before.lines)) before.same due
+          (slice_get-map spelled (lines_of before.lines) before.same ∙ (ap (option_map spelled) is_due.is_printed ∙ ap Some (sym is_due.is_due)))
           ∙ ap (λ xs. xs ++ due ∷ []) so_far.first);
     }
 so_far_next (Some mismatch) lines rules due rule_by before same so_far next =
-    (first_wrong lines rules due rule_by before.input before.lines.now before.same mismatch so_far next, next.input_is)
+    (first_wrong lines rules due rule_by before.input (lines_of before.lines) before.same mismatch so_far next, next.input_is)
 
 so_far_more : (wrong : Option Mismatch) (lines : List (List ℕ)) (rules : List (ℕ → Rule)) (due : List ℕ) (rule_by : ℕ → Rule)
     (before after : Comparison)
-    → SoFar wrong lines rules before.input before.lines.now before.same → OneMore wrong rule_by due before after
-    → SoFar after.wrong (lines ++ due ∷ []) (rules ++ rule_by ∷ []) before.input before.lines.now after.same
+    → SoFar wrong lines rules before.input (lines_of before.lines) before.same → OneMore wrong rule_by due before after
+    → SoFar after.wrong (lines ++ due ∷ []) (rules ++ rule_by ∷ []) before.input (lines_of before.lines) after.same
 so_far_more None lines rules due rule_by before after so_far one =
     so_far_next after.wrong lines rules due rule_by before after.same so_far one
 so_far_more (Some mismatch) lines rules due rule_by before after so_far one =
-    subst (λ wrong. SoFar wrong (lines ++ due ∷ []) (rules ++ rule_by ∷ []) before.input before.lines.now after.same) (sym one)
-    (still_wrong lines (due ∷ []) rules (rule_by ∷ []) before.lines.now mismatch so_far.0, so_far.1)
+    subst (λ wrong. SoFar wrong (lines ++ due ∷ []) (rules ++ rule_by ∷ []) before.input (lines_of before.lines) after.same) (sym one)
+    (still_wrong lines (due ∷ []) rules (rule_by ∷ []) (lines_of before.lines) mismatch so_far.0, so_far.1)
 
 -- one more due line was compared
 pub one_line : (lines : List (List ℕ)) (rules : List (ℕ → Rule)) (due : List ℕ) (rule_by : ℕ → Rule) (before after : Comparison)
-    → SoFar before.wrong lines rules before.input before.lines.now before.same → HasComparedOne rule_by due before after
-    → SoFar after.wrong (lines ++ due ∷ []) (rules ++ rule_by ∷ []) after.input after.lines.now after.same
+    → SoFar before.wrong lines rules before.input (lines_of before.lines) before.same → HasComparedOne rule_by due before after
+    → SoFar after.wrong (lines ++ due ∷ []) (rules ++ rule_by ∷ []) after.input (lines_of after.lines) after.same
 one_line lines rules due rule_by before after so_far one =
-    subst (λ r. SoFar after.wrong (lines ++ due ∷ []) (rules ++ rule_by ∷ []) r after.lines.now after.same) (sym one.input)
+    subst (λ r. SoFar after.wrong (lines ++ due ∷ []) (rules ++ rule_by ∷ []) r (lines_of after.lines) after.same) (sym one.input)
     (subst (λ p. SoFar after.wrong (lines ++ due ∷ []) (rules ++ rule_by ∷ []) before.input p after.same) (sym one.lines)
     (so_far_more before.wrong lines rules due rule_by before after so_far one.one))
 
@@ -127,7 +129,7 @@ module _ {X : Type 0} (input : Input) (first : List ℕ) (first_rule : Rule) (li
     input_is = one.input ∙ h.input_is;
     lines_are = one.lines ∙ h.lines_are;
     so_far = simp map-append (subst (λ d. SoFar after.wrong (first ∷ (map line rows ++ d ∷ []))
-        ((λ field. first_rule) ∷ (map rule rows ++ rule row ∷ [])) after.input after.lines.now after.same) is
+        ((λ field. first_rule) ∷ (map rule rows ++ rule row ∷ [])) after.input (lines_of after.lines) after.same) is
         (one_line (first ∷ map line rows) ((λ field. first_rule) ∷ map rule rows) due (rule row) before after h.so_far one));
   }
 
@@ -147,14 +149,14 @@ module _ {X : Type 0} (input : Input) (first : List ℕ) (first_rule : Rule) (li
       → HasCompared input first first_rule line rule printed comparison (rows ++ more)
   wrong_rows comparison mismatch rows more wrong h =
       let so_far = subst (λ w. SoFar w (first ∷ map line rows)
-      ((λ field. first_rule) ∷ map rule rows) comparison.input comparison.lines.now comparison.same) wrong h.so_far in
+      ((λ field. first_rule) ∷ map rule rows) comparison.input (lines_of comparison.lines) comparison.same) wrong h.so_far in
       record {
         input_is = h.input_is;
         lines_are = h.lines_are;
         so_far = subst (λ w. SoFar w (first ∷ map line (rows ++ more))
-            ((λ field. first_rule) ∷ map rule (rows ++ more)) comparison.input comparison.lines.now comparison.same) (sym wrong) (
+            ((λ field. first_rule) ∷ map rule (rows ++ more)) comparison.input (lines_of comparison.lines) comparison.same) (sym wrong) (
               simp map-append (still_wrong (first ∷ map line rows) (map line more) ((λ field. first_rule) ∷ map rule rows)
-                  (map rule more) comparison.lines.now mismatch so_far.0),
+                  (map rule more) (lines_of comparison.lines) mismatch so_far.0),
               so_far.1,
             );
       }
@@ -178,13 +180,13 @@ module _ {X : Type 0} (input : Input) (first : List ℕ) (first_rule : Rule) (li
 
 module _ {X : Type 0} (input : Input) (first : List ℕ) (first_rule : Rule) (line : X → List ℕ) (rule : X → ℕ → Rule) where
   -- the first line was compared
-  pub begun : (lines : Bor (List LineFields)) (after : Comparison) (due : List ℕ) → due ≡ first
+  pub begun : (lines : PrintedLines) (after : Comparison) (due : List ℕ) → due ≡ first
       → HasComparedOne (λ field. first_rule) due (record { input = input; lines = lines; same = 0; wrong = None }) after
-      → HasCompared input first first_rule line rule lines.now after []
+      → HasCompared input first first_rule line rule (lines_of lines) after []
   begun lines after due is one = record {
     input_is = one.input;
     lines_are = one.lines;
-    so_far = subst (λ d. SoFar after.wrong (d ∷ []) ((λ field. first_rule) ∷ []) after.input after.lines.now after.same) is
+    so_far = subst (λ d. SoFar after.wrong (d ∷ []) ((λ field. first_rule) ∷ []) after.input (lines_of after.lines) after.same) is
         (one_line [] [] due (λ field. first_rule) (record { input = input; lines = lines; same = 0; wrong = None }) after
         (record { count = refl; ruled = refl; first = refl }) one);
   }
@@ -198,13 +200,13 @@ ends_there due lines index ends is_due begins = elim (cases_lt (index + 1) (leng
 
 complete_by : (wrong : Option Mismatch) (lines : List (List ℕ)) (rules : List (ℕ → Rule)) (due : List ℕ) (rule_by : ℕ → Rule)
     (before after : Comparison)
-    → SoFar wrong lines rules before.input before.lines.now before.same → OneMore wrong rule_by due before after
-    → EndsOnce before.lines.now → BeginsLikeEnd due → after.wrong ≡ None → lines ++ due ∷ [] ≡ map spelled before.lines.now
+    → SoFar wrong lines rules before.input (lines_of before.lines) before.same → OneMore wrong rule_by due before after
+    → EndsOnce (lines_of before.lines) → BeginsLikeEnd due → after.wrong ≡ None → lines ++ due ∷ [] ≡ map spelled (lines_of before.lines)
 complete_by None lines rules due rule_by before after so_far one ends begins right =
     let next : NextIs None rule_by due before after.same = subst (λ w. NextIs w rule_by due before after.same) right one in
     let more = so_far_next None lines rules due rule_by before after.same so_far next in
-    let there = ends_there due before.lines.now before.same ends next.1 begins in
-    sym more.first ∙ take_all after.same (map spelled before.lines.now) (omega (arith, length-map before.lines.now spelled, next.0))
+    let there = ends_there due (lines_of before.lines) before.same ends next.1 begins in
+    sym more.first ∙ take_all after.same (map spelled (lines_of before.lines)) (omega (arith, length-map (lines_of before.lines) spelled, next.0))
 complete_by (Some mismatch) lines rules due rule_by before after so_far one ends begins right =
     absurd (none_some mismatch (sym right ∙ one))
   where
@@ -213,8 +215,8 @@ complete_by (Some mismatch) lines rules due rule_by before after so_far one ends
 
 -- where no line was wrong, the lines with the last one are the printed ones
 pub complete : (lines : List (List ℕ)) (rules : List (ℕ → Rule)) (due : List ℕ) (rule_by : ℕ → Rule) (before after : Comparison)
-    → SoFar before.wrong lines rules before.input before.lines.now before.same → HasComparedOne rule_by due before after
+    → SoFar before.wrong lines rules before.input (lines_of before.lines) before.same → HasComparedOne rule_by due before after
     → CanCompare before
-    → BeginsLikeEnd due → after.wrong ≡ None → lines ++ due ∷ [] ≡ map spelled before.lines.now
+    → BeginsLikeEnd due → after.wrong ≡ None → lines ++ due ∷ [] ≡ map spelled (lines_of before.lines)
 complete lines rules due rule_by before after so_far one ready begins right =
     complete_by before.wrong lines rules due rule_by before after so_far one.one ready.ends begins right

@@ -5,7 +5,7 @@ use Rattle.std.specs.Str.{bytes_eq}
 use Rattle.std.proofs.lemmas.Bool.{cases_Bool}
 use Rattle.std.proofs.lemmas.List.Splits.{join_with_byte-slice_split}
 use Rattle.std.proofs.lemmas.Slice.Eq.{bytes_eq-Decides}
-use Rattle.fb_report.specs.Grammar.{LineFields, report_fields, ended, spelled}
+use Rattle.fb_report.specs.Grammar.{LineFields, report_fields}
 use Rattle.fb_check.specs.Verdict.{DifferFirstAt}
 
 -- how many fields at the front are the same
@@ -37,7 +37,6 @@ few_agree (x ∷ xs) (y ∷ ys) = elim (cases_Bool (bytes_eq x y)) [
   | inr other ↦ rw other (omega arith)
 ]
 
--- the fields of a due line aren't printed ones that spell another line
-pub fields_differ : (due line : List ℕ) (printed : LineFields) → due ≡ ended line → due ≢ spelled printed → report_fields line ≢ printed
-fields_differ due line printed e differ =
-    λ same. differ (e ∙ (ap ended (sym (join_with_byte-slice_split 32 line)) ∙ ap spelled same))
+-- the fields of a due line aren't printed ones that join to another line
+pub fields_differ : (due : List ℕ) (printed : LineFields) → due ≢ join_with_byte 32 printed → report_fields due ≢ printed
+fields_differ due printed other = λ same. other (sym (join_with_byte-slice_split 32 due) ∙ ap (join_with_byte 32) same)

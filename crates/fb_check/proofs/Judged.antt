@@ -21,6 +21,7 @@ use Rattle.fb_report.specs.declared.bytes.Bytes.{Bytes}
 use Rattle.fb_report.specs.Fore.{fore_first, fore_line, fore_last, fore_lines}
 use Rattle.fb_report.specs.Back.{back_first, back_line, back_last, back_lines}
 use Rattle.fb_report.specs.Grammar.{LineFields, spelled}
+use Rattle.fb_check.specs.Printed.{lines_of}
 use Rattle.fb_check.specs.declared.comparing.Comparison.{Comparison}
 use Rattle.fb_check.specs.declared.verdict.Rule.{Rule}
 use Rattle.fb_check.specs.declared.verdict.Rule.TheVariants.{Foreground, Timeline, End}
@@ -82,10 +83,10 @@ fore_whole size bytes run printed mismatch wrong =
 -- what SoFar says of a wrong line
 named : (wrong : Option Mismatch) (mismatch : Mismatch) (due : List (List ℕ)) (rules : List (ℕ → Rule)) (comparison : Comparison)
     → comparison.wrong ≡ Some mismatch
-    → SoFar comparison.wrong due rules comparison.input comparison.lines.now comparison.same
-    → IsMismatch due rules comparison.lines.now mismatch × (mismatch.input ≡ comparison.input)
+    → SoFar comparison.wrong due rules comparison.input (lines_of comparison.lines) comparison.same
+    → IsMismatch due rules (lines_of comparison.lines) mismatch × (mismatch.input ≡ comparison.input)
 named wrong mismatch due rules comparison e so_far =
-    subst (λ w. SoFar w due rules comparison.input comparison.lines.now comparison.same) e so_far
+    subst (λ w. SoFar w due rules comparison.input (lines_of comparison.lines) comparison.same) e so_far
 
 module _ (inputs : Inputs) (printed : Reports) where
   -- before the first decision
@@ -232,12 +233,12 @@ module _ (inputs : Inputs) (printed : Reports) (state : RunState) (fore back : C
 
   counted : fore.wrong ≡ None → fore.same - 1 ≡ length judged.fore_rows
   counted right =
-      let so_far = subst (λ w. SoFar w due_fore fore_kept fore.input fore.lines.now fore.same) right judged.fore_compared.so_far in
+      let so_far = subst (λ w. SoFar w due_fore fore_kept fore.input (lines_of fore.lines) fore.same) right judged.fore_compared.so_far in
       omega (arith, so_far.count, length-map judged.fore_rows (fore_line inputs.disk.sector_bytes printed.bytes))
 
   pub some_same : fore.wrong ≡ None → 0 < fore.same
   some_same right =
-      let so_far = subst (λ w. SoFar w due_fore fore_kept fore.input fore.lines.now fore.same) right judged.fore_compared.so_far in
+      let so_far = subst (λ w. SoFar w due_fore fore_kept fore.input (lines_of fore.lines) fore.same) right judged.fore_compared.so_far in
       omega (arith, so_far.count)
 
   module _ (law : DecisionsMakeARun) (right : fore.wrong ≡ None) (after : Comparison)
@@ -313,10 +314,10 @@ module _ (inputs : Inputs) (printed : Reports) (state : RunState) (fore back : C
             subst (λ lines. IsMismatch (back_lines printed.names inputs.disk.sector_bytes printed.bytes full_run)
                 (back_rules full_run) lines mismatch) (last.lines ∙ compared.lines_are)
                 (subst (λ e. IsMismatch (back_first ∷ (map (back_line printed.names inputs.disk.sector_bytes printed.bytes) full_run.back
-                ++ back_last e ∷ [])) (back_rules full_run) ended_back.lines.now mismatch) end_is
+                ++ back_last e ∷ [])) (back_rules full_run) (lines_of ended_back.lines) mismatch) end_is
                 (subst (λ tasks. IsMismatch (back_first
                 ∷ (map (back_line printed.names inputs.disk.sector_bytes printed.bytes) (judged.back_rows ++ tasks) ++ back_last end ∷ []))
-                ((λ field. Timeline) ∷ (map back_rule (judged.back_rows ++ tasks) ++ (λ field. End) ∷ [])) ended_back.lines.now mismatch)
+                ((λ field. Timeline) ∷ (map back_rule (judged.back_rows ++ tasks) ++ (λ field. End) ∷ [])) (lines_of ended_back.lines) mismatch)
                 rows_are known.0)),
             known.1 ∙ (last.input ∙ compared.input_is),
           )

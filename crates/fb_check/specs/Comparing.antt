@@ -1,5 +1,6 @@
 -- How far the lines of a printed report were compared with the due ones.
 use Rattle.std.specs.Prelude.{◌≡◌, ◌≢◌, ℕ, ◌+◌, ◌<◌, List, ◌∷◌, length, map, take, Option, None, Some, slice_get}
+use Rattle.std.specs.List.{join_with_byte}
 use Rattle.fb_rows.specs.declared.fore.ForeRow.{ForeRow}
 use Rattle.fb_rows.specs.declared.back.BackRow.{BackRow}
 use Rattle.fb_report.specs.declared.bytes.Bytes.{Bytes}
@@ -13,7 +14,20 @@ use Rattle.fb_check.specs.declared.comparing.Comparison.{Comparison}
 use Rattle.fb_check.specs.declared.verdict.Rule.{Rule}
 use Rattle.fb_check.specs.declared.verdict.Rule.TheVariants.{Foreground, Timeline}
 use Rattle.fb_check.specs.declared.verdict.Mismatch.{Mismatch}
+use Rattle.fb_check.specs.Printed.{lines_of}
 use Rattle.fb_check.specs.Verdict.{DifferFirstAt, IsMismatch, back_rule}
+
+-- a due line isn't the printed one, and this is the first field, from 1, that differs
+pub record DiffersFrom (due : List ℕ) (line : LineFields) (field : ℕ) : Type 0 where
+  pub other : due ≢ join_with_byte 32 line
+  pub field_index : ℕ
+  pub field_is : field ≡ field_index + 1
+  pub fields : DifferFirstAt field_index (report_fields due) line
+
+-- a due line, without its line feed, is the printed one, or this is its first wrong field
+abbrev pub FindsWrong : Option ℕ → List ℕ → LineFields → Type 0
+FindsWrong None due line = due ≡ join_with_byte 32 line
+FindsWrong (Some field) due line = DiffersFrom due line field
 
 -- a printed line stands where the next due line is to be compared
 abbrev pub StandsNext : Option Mismatch → List LineFields → ℕ → Type 0
@@ -22,8 +36,8 @@ StandsNext (Some mismatch) lines same = Unit {0}
 
 -- another due line can be compared
 pub record CanCompare (comparison : Comparison) : Type 0 where
-  pub ends : EndsOnce comparison.lines.now
-  pub next : StandsNext comparison.wrong comparison.lines.now comparison.same
+  pub ends : EndsOnce (lines_of comparison.lines)
+  pub next : StandsNext comparison.wrong (lines_of comparison.lines) comparison.same
 
 -- the printed line of this index is the due one
 pub record IsDue (due : List ℕ) (lines : List LineFields) (index : ℕ) : Type 0 where
@@ -52,8 +66,8 @@ pub record NamesLine (due : List ℕ) (rule_by : ℕ → Rule) (input : Input) (
 
 -- the due line is the next printed one, which is passed, or it is wrong
 abbrev pub NextIs : Option Mismatch → (ℕ → Rule) → List ℕ → Comparison → ℕ → Type 0
-NextIs None rule_by due before same = (same ≡ before.same + 1) × IsDue due before.lines.now before.same
-NextIs (Some mismatch) rule_by due before same = NamesLine due rule_by before.input before.lines.now before.same mismatch
+NextIs None rule_by due before same = (same ≡ before.same + 1) × IsDue due (lines_of before.lines) before.same
+NextIs (Some mismatch) rule_by due before same = NamesLine due rule_by before.input (lines_of before.lines) before.same mismatch
 
 -- one more due line was compared, unless an earlier one was wrong
 abbrev pub OneMore : Option Mismatch → (ℕ → Rule) → List ℕ → Comparison → Comparison → Type 0
@@ -62,7 +76,7 @@ OneMore (Some mismatch) rule_by due before after = after.wrong ≡ Some mismatch
 
 pub record HasComparedOne (rule_by : ℕ → Rule) (due : List ℕ) (before after : Comparison) : Type 0 where
   pub input : after.input ≡ before.input
-  pub lines : after.lines.now ≡ before.lines.now
+  pub lines : lines_of after.lines ≡ lines_of before.lines
   pub one : OneMore before.wrong rule_by due before after
 
 -- the due lines so far are the first printed ones
@@ -80,9 +94,9 @@ SoFar (Some mismatch) due rules input lines same = IsMismatch due rules lines mi
 pub record HasCompared {X : Type 0} (input : Input) (first : List ℕ) (first_rule : Rule) (line : X → List ℕ) (rule : X → ℕ → Rule)
     (printed : List LineFields) (comparison : Comparison) (rows : List X) : Type 0 where
   pub input_is : comparison.input ≡ input
-  pub lines_are : comparison.lines.now ≡ printed
+  pub lines_are : lines_of comparison.lines ≡ printed
   pub so_far : SoFar comparison.wrong (first ∷ map line rows)
-      ((λ field. first_rule) ∷ map rule rows) comparison.input comparison.lines.now comparison.same
+      ((λ field. first_rule) ∷ map rule rows) comparison.input (lines_of comparison.lines) comparison.same
 
 abbrev pub HasComparedFore : ℕ → Bytes → List LineFields → Comparison → List ForeRow → Type 0
 HasComparedFore size bytes printed comparison rows =

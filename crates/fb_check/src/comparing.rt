@@ -10,15 +10,13 @@ ghost use Rattle.fb_report.specs.Back.{back_last};
 ghost use Rattle.fb_report.specs.Grammar.{LineFields, ended};
 ghost use Rattle.fb_report.specs.Reading.{BeginsLikeEnd, EndsOnce};
 ghost use Rattle.fb_check.specs.declared.verdict.Rule.TheVariants.{Foreground, End};
+ghost use Rattle.fb_check.specs.Printed.{lines_of};
 ghost use Rattle.fb_check.specs.Verdict as verdict;
 ghost use Rattle.fb_check.specs.Comparing.{CanCompare, IsDue, IsNotDue, HasComparedOne, HasComparedFore, HasComparedBack};
 
-use crate::fields::{are_joined, first_wrong_field};
-use crate::{Mismatch, Rule};
+use crate::{Mismatch, PrintedLines, Rule};
 use fb_desk::Input;
-use fb_report::{
-    Bytes, ReportLines, back_first, back_last, back_line, fore_first, fore_last, fore_line,
-};
+use fb_report::{Bytes, back_first, back_last, back_line, fore_first, fore_last, fore_line};
 use fb_rows::{BackRow, BackRows, ForeRows};
 use fb_script::Names;
 use fb_units::{NoMemory, Ns};
@@ -30,7 +28,7 @@ pub struct Comparison<'a> {
     /// The report.
     pub input: Input,
     /// Its lines.
-    pub lines: &'a ReportLines,
+    pub lines: PrintedLines<'a>,
     /// How many due lines are the printed ones.
     pub same: usize,
     /// The first line that is wrong.
@@ -39,10 +37,10 @@ pub struct Comparison<'a> {
 
 impl<'a> Comparison<'a> {
     /// Begins with the first line of a foreground report. The only error is out of memory.
-    pub fn begin_fore(alloc: Global, lines: &'a ReportLines) -> Result<Comparison<'a>, NoMemory>
-        requires ends { EndsOnce lines.now }
+    pub fn begin_fore(alloc: Global, lines: PrintedLines<'a>) -> Result<Comparison<'a>, NoMemory>
+        requires ends { EndsOnce (lines_of lines) }
         ensures ready { IfOk result CanCompare }
-        ensures compared { (size : ℕ) (bytes : Bytes) → IfOk result (λ comparison. HasComparedFore size bytes lines.now comparison []) }
+        ensures compared { (size : ℕ) (bytes : Bytes) → IfOk result (λ comparison. HasComparedFore size bytes (lines_of lines.entry) comparison []) }
     {
         let due = fore_first(alloc)?;
         let mut comparison = Comparison {
@@ -56,11 +54,11 @@ impl<'a> Comparison<'a> {
     }
 
     /// Begins with the first line of a background report. The only error is out of memory.
-    pub fn begin_back(alloc: Global, lines: &'a ReportLines) -> Result<Comparison<'a>, NoMemory>
-        requires ends { EndsOnce lines.now }
+    pub fn begin_back(alloc: Global, lines: PrintedLines<'a>) -> Result<Comparison<'a>, NoMemory>
+        requires ends { EndsOnce (lines_of lines) }
         ensures ready { IfOk result CanCompare }
         ensures compared { (names : List (List ℕ)) (size : ℕ) (bytes : Bytes)
-            → IfOk result (λ comparison. HasComparedBack names size bytes lines.now comparison []) }
+            → IfOk result (λ comparison. HasComparedBack names size bytes (lines_of lines.entry) comparison []) }
     {
         let due = back_first(alloc)?;
         let mut comparison = Comparison {
@@ -191,12 +189,12 @@ impl<'a> Comparison<'a> {
     // Passes the next line if it is the due one; else returns the first field, counted from 1, that
     // differs.
     fn pass_line(&mut self, due: &[u8]) -> Option<u32>
-        requires ends { EndsOnce self.old.lines.now }
-        requires next { self.old.same < length self.old.lines.now }
+        requires ends { EndsOnce (lines_of self.old.lines) }
+        requires next { self.old.same < length (lines_of self.old.lines) }
         requires whole { (line : List ℕ) × (due.now ≡ ended line) }
         ensures passed { IfNone result (self.new.same ≡ self.old.same + 1) }
-        ensures due { IfNone result (IsDue due.now self.old.lines.now self.old.same) }
-        ensures differs { IfSome result (λ field. IsNotDue due.now self.old.lines.now self.old.same field) }
+        ensures due { IfNone result (IsDue due.now (lines_of self.old.lines) self.old.same) }
+        ensures differs { IfSome result (λ field. IsNotDue due.now (lines_of self.old.lines) self.old.same field) }
         ensures stays { IfSome result (λ field. self.new.same ≡ self.old.same) }
         ensures lines { self.new.lines ≡ self.old.lines }
         ensures input { self.new.input ≡ self.old.input }
@@ -206,12 +204,12 @@ impl<'a> Comparison<'a> {
         let count = self.lines.len();
         prove!(self.same < count);
         let due = &due[..due.len() - 1];
-        let line = self.lines.get(self.same);
-        if are_joined(line, due) {
-            self.same += 1;
-            None
-        } else {
-            Some(first_wrong_field(due, line))
+        match self.lines.wrong_at(self.same, due) {
+            Some(field) => Some(field),
+            None => {
+                self.same += 1;
+                None
+            }
         }
     }
 

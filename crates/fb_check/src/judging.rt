@@ -13,11 +13,11 @@ ghost use Rattle.fb_report.specs.Grammar.{LineFields, back_grammar, fore_grammar
 ghost use Rattle.fb_report.specs.Reading.{IsReport};
 ghost use Rattle.fb_check.specs.Comparing.{CanCompare, HasComparedFore, HasComparedBack};
 ghost use Rattle.fb_check.specs.Judged.{HasJudged};
-ghost use Rattle.fb_check.specs.Printed.{reports_of};
+ghost use Rattle.fb_check.specs.Printed.{lines_of, reports_of};
 ghost use Rattle.fb_check.specs.Verdict.{IsVerdict};
 
-use crate::Verdict;
 use crate::comparing::Comparison;
+use crate::{PrintedLines, Verdict};
 use fb_decide::{Decider, Rows, RunInputs, decisions_make_a_run};
 use fb_plan::Planner;
 use fb_queue::Queue;
@@ -28,15 +28,15 @@ use fb_trace::Trace;
 use fb_units::{NoMemory, Ns};
 use std::alloc::Global;
 
-// Two printed reports.
+/// Two printed reports.
 #[derive(Clone, Copy)]
-struct Printed<'a> {
-    // How the bytes of reads and deliveries are shown.
-    bytes: Bytes,
-    // The lines of the foreground report.
-    fore: &'a ReportLines,
-    // The lines of the background report.
-    back: &'a ReportLines,
+pub struct Printed<'a> {
+    /// How the bytes of reads and deliveries are shown.
+    pub bytes: Bytes,
+    /// The lines of the foreground report.
+    pub fore: PrintedLines<'a>,
+    /// The lines of the background report.
+    pub back: PrintedLines<'a>,
 }
 
 /// Judges whether two printed reports are those of the full run of these inputs.
@@ -78,7 +78,31 @@ pub fn judge<Q: Queue, P: Planner>(
         calls,
         until,
     };
-    let printed = Printed { bytes, fore, back };
+    let printed = Printed {
+        bytes,
+        fore: PrintedLines::Fields(fore),
+        back: PrintedLines::Fields(back),
+    };
+    judge_printed(alloc, inputs, queue, planner, printed)
+}
+
+/// Judges as `judge` does, in whichever form the lines of the reports are at hand.
+pub fn judge_printed<Q: Queue, P: Planner>(
+    alloc: Global,
+    inputs: RunInputs<'_>,
+    queue: Q,
+    planner: &P,
+    printed: Printed<'_>,
+) -> Result<Verdict, NoMemory>
+    requires empty { Q.pending queue ≡ [] }
+    requires fresh { Q.joined queue ≡ 0 }
+    requires accepted { IsAccepted (inputs_of inputs Q.key) }
+    requires names { length inputs.calls.now.names ≡ length (tasks inputs.calls.now.calls.items) }
+    requires whole { inputs.disk.now.sector_bytes % 16 ≡ 0 }
+    requires fore { IsReport fore_grammar (lines_of printed.fore) }
+    requires back { IsReport back_grammar (lines_of printed.back) }
+    ensures { IfOk result (IsVerdict (inputs_of inputs.entry Q.key) (reports_of inputs.entry printed.entry)) }
+{
     let mut decider = Decider::new(alloc, inputs, queue)?;
     judge_over(alloc, &mut decider, planner, printed)
 }
@@ -96,8 +120,8 @@ fn judge_over<Q: Queue, P: Planner>(
     requires fits { Q.fits decider.old.queue decider.old.inputs.disk.now }
     requires names { length decider.old.inputs.calls.now.names ≡ length (tasks decider.old.inputs.calls.now.calls.items) }
     requires whole { decider.old.inputs.disk.now.sector_bytes % 16 ≡ 0 }
-    requires fore { IsReport fore_grammar printed.fore.now }
-    requires back { IsReport back_grammar printed.back.now }
+    requires fore { IsReport fore_grammar (lines_of printed.fore) }
+    requires back { IsReport back_grammar (lines_of printed.back) }
     ensures { IfOk result (IsVerdict (inputs_of decider.old.inputs Q.key) (reports_of decider.old.inputs printed.entry)) }
 {
     let inputs = decider.inputs();

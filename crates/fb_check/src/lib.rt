@@ -10,9 +10,11 @@
 mod comparing;
 mod fields;
 mod judging;
+mod lines;
 mod printing;
 mod verdict;
 
-pub use judging::judge;
+pub use judging::{Printed, judge, judge_printed};
+pub use lines::PrintedLines;
 pub use printing::{runs_can_be_printed, scripts_name_tasks};
 pub use verdict::{Mismatch, Rule, Verdict};

@@ -23,9 +23,9 @@ use crate::policy::judge_by;
 use crate::reading::{NamedFiles, RunFiles, read_files, read_printed};
 use crate::verdict_line::verdict_line;
 use crate::writing::write_made;
-use fb_check::Verdict;
+use fb_check::{Printed, PrintedLines, Verdict};
 use fb_desk::{Desk, Input, Output};
-use fb_report::{ReportLines, ReportsError, read_back, read_fore};
+use fb_report::{ReportsError, TextLines, split_back, split_fore};
 use fb_units::NoMemory;
 use fb_words::CheckWords;
 use std::alloc::Global;
@@ -108,7 +108,7 @@ fn judge_printed<D: Desk>(
         Ok(text) => text,
         Err(outcome) => return Err(outcome),
     };
-    match read_fore(alloc, text.as_slice()) {
+    match split_fore(alloc, text.as_slice()) {
         Ok(fore) => judge_with(alloc, desk, words, files, &fore),
         Err(error) => Err(refused(error)),
     }
@@ -120,7 +120,7 @@ fn judge_with<D: Desk>(
     desk: &mut D,
     words: &CheckWords,
     files: &RunFiles,
-    fore: &ReportLines,
+    fore: &TextLines<'_>,
 ) -> Result<Verdict, Outcome>
     requires fresh { ((D.seen desk.old).inputs Input.BackReport).opened ≡ false }
     requires fit { IsAccepted (inputs_of_files (files_of files.now) (key_of words.now.policy) words.now.until) }
@@ -137,12 +137,17 @@ fn judge_with<D: Desk>(
         Ok(text) => text,
         Err(outcome) => return Err(outcome),
     };
-    let back = match read_back(alloc, text.as_slice()) {
+    let back = match split_back(alloc, text.as_slice()) {
         Ok(lines) => lines,
         Err(error) => return Err(refused(error)),
     };
     let inputs = files.run_inputs(words.until);
-    match judge_by(alloc, words.policy, inputs, words.bytes, fore, &back) {
+    let printed = Printed {
+        bytes: words.bytes,
+        fore: PrintedLines::Text(fore),
+        back: PrintedLines::Text(&back),
+    };
+    match judge_by(alloc, words.policy, inputs, printed) {
         Ok(verdict) => Ok(verdict),
         Err(NoMemory) => Err(Outcome::NoMemory),
     }

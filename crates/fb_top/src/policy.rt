@@ -1,6 +1,7 @@
 // The replay, and the judgement of its reports, in the order of the policy that the words name.
 ghost use Rattle.std.specs.Prelude.{◌≡◌, ◌≤◌, ◌*◌, ◌^◌, [], length, IfOk};
 ghost use Rattle.fb_script.specs.Allowed.{tasks};
+ghost use Rattle.fb_check.specs.Printed.{lines_of, reports_of};
 ghost use Rattle.fb_check.specs.Verdict.{IsVerdict};
 ghost use Rattle.fb_decide.specs.RunInputs.{inputs_of};
 ghost use Rattle.fb_model.specs.Accepted.{IsAccepted};
@@ -10,13 +11,12 @@ ghost use Rattle.fb_report.specs.Reading.{IsReport};
 ghost use Rattle.fb_top.specs.Done.{CanBeTold};
 ghost use Rattle.fb_top.specs.Read.{key_of};
 
-use fb_check::{Verdict, judge};
+use fb_check::{Printed, Verdict, judge_printed};
 use fb_decide::RunInputs;
 use fb_detour::IndexedPlanner;
 use fb_engine::replay;
 use fb_fastq::{ClookMap, FcfsRing, SptfBuckets, SstfMap};
 use fb_queue::Queue;
-use fb_report::{Bytes, ReportLines};
 use fb_rows::Run;
 use fb_units::NoMemory;
 use fb_words::Policy;
@@ -63,57 +63,24 @@ pub fn replay_in<Q: Queue>(alloc: Global, queue: Q, inputs: RunInputs<'_>) -> Re
 
 /// Judges two printed reports against the full run of accepted inputs, in a policy's order.
 ///
-/// `bytes` says how the bytes of reads and deliveries are shown. The only error is out of memory.
+/// The only error is out of memory.
 pub fn judge_by(
     alloc: Global,
     policy: Policy,
     inputs: RunInputs<'_>,
-    bytes: Bytes,
-    fore: &ReportLines,
-    back: &ReportLines,
+    printed: Printed<'_>,
 ) -> Result<Verdict, NoMemory>
     requires fit { IsAccepted (inputs_of inputs (key_of policy)) }
     requires names { length inputs.calls.now.names ≡ length (tasks inputs.calls.now.calls.items) }
-    requires fore { IsReport fore_grammar fore.now }
-    requires back { IsReport back_grammar back.now }
-    ensures { IfOk result (IsVerdict (inputs_of inputs.entry (key_of policy))
-        (record { names = inputs.entry.calls.now.names; bytes = bytes; fore = fore.now; back = back.now })) }
-{
-    match policy {
-        Policy::Fcfs => judge_in(alloc, FcfsRing::new(alloc), inputs, bytes, fore, back),
-        Policy::Sstf => judge_in(alloc, SstfMap::new(alloc), inputs, bytes, fore, back),
-        Policy::Clook => judge_in(alloc, ClookMap::new(alloc), inputs, bytes, fore, back),
-        Policy::Sptf => judge_in(alloc, SptfBuckets::new(alloc), inputs, bytes, fore, back),
-    }
-}
-
-// Judges them in the order of a queue, which must be new.
-fn judge_in<Q: Queue>(
-    alloc: Global,
-    queue: Q,
-    inputs: RunInputs<'_>,
-    bytes: Bytes,
-    fore: &ReportLines,
-    back: &ReportLines,
-) -> Result<Verdict, NoMemory>
-    requires empty { Q.pending queue ≡ [] }
-    requires fresh { Q.joined queue ≡ 0 }
-    requires fit { IsAccepted (inputs_of inputs Q.key) }
-    requires names { length inputs.calls.now.names ≡ length (tasks inputs.calls.now.calls.items) }
-    requires fore { IsReport fore_grammar fore.now }
-    requires back { IsReport back_grammar back.now }
-    ensures { IfOk result (IsVerdict (inputs_of inputs.entry Q.key)
-        (record { names = inputs.entry.calls.now.names; bytes = bytes; fore = fore.now; back = back.now })) }
+    requires fore { IsReport fore_grammar (lines_of printed.fore) }
+    requires back { IsReport back_grammar (lines_of printed.back) }
+    ensures { IfOk result (IsVerdict (inputs_of inputs.entry (key_of policy)) (reports_of inputs.entry printed.entry)) }
 {
     let planner = &IndexedPlanner::new();
-    let RunInputs {
-        disk,
-        latent,
-        trace,
-        calls,
-        until,
-    } = inputs;
-    judge(
-        alloc, disk, latent, trace, calls, queue, planner, until, bytes, fore, back,
-    )
+    match policy {
+        Policy::Fcfs => judge_printed(alloc, inputs, FcfsRing::new(alloc), planner, printed),
+        Policy::Sstf => judge_printed(alloc, inputs, SstfMap::new(alloc), planner, printed),
+        Policy::Clook => judge_printed(alloc, inputs, ClookMap::new(alloc), planner, printed),
+        Policy::Sptf => judge_printed(alloc, inputs, SptfBuckets::new(alloc), planner, printed),
+    }
 }

@@ -4,15 +4,15 @@ use Rattle.fb_decide.specs.RunInputs.{inputs_of}
 use Rattle.fb_decide.specs.RunState.{state_of}
 use Rattle.fb_decide.specs.Making.{HasMade}
 use Rattle.fb_decide.proofs.Looping.{one_by}
-use Rattle.fb_check.specs.Printed.{reports_of}
+use Rattle.fb_check.specs.Printed.{lines_of, reports_of}
 use Rattle.fb_check.proofs.Judged.{at_first, going, less, back_named, wrong_now, next, none_by}
 use Rattle.fb_check.proofs.judging.judge_over.Goals as goal
 
 pub begin_fore-requires : goal.begin_fore-requires
-begin_fore-requires g c = record { ends = c.reports_end_once.ensures fore_grammar c.args.printed.fore.now (inl refl) c.requires.fore }
+begin_fore-requires g c = record { ends = c.reports_end_once.ensures fore_grammar (lines_of c.args.printed.fore) (inl refl) c.requires.fore }
 
 pub begin_back-requires : goal.begin_back-requires
-begin_back-requires g c = record { ends = c.reports_end_once.ensures back_grammar c.args.printed.back.now (inr refl) c.requires.back }
+begin_back-requires g c = record { ends = c.reports_end_once.ensures back_grammar (lines_of c.args.printed.back) (inr refl) c.requires.back }
 
 pub loop-goes_on-init : goal.loop-goes_on-init
 loop-goes_on-init g c = record {

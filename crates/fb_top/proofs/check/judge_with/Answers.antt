@@ -14,19 +14,19 @@ pub returns-in-Ok-judge_by-clause-judges : goal.returns-in-Ok-judge_by-clause-ju
 returns-in-Ok-judge_by-clause-judges g c =
     let words = c.args.words.now in
     record {
-      back = c.in-Ok-read_back.lines;
+      back = c.in-Ok-split_back.lines;
       back_read = search rules;
       verdict_is = subst (λ (inputs : Inputs). IsVerdict inputs (record {
         names = c.args.files.now.calls.names;
         bytes = words.bytes;
         fore = c.args.fore.now;
-        back = c.in-Ok-read_back.lines;
+        back = c.in-Ok-split_back.lines;
       }) c.in-Ok-judge_by.verdict)
           (c.run_inputs-inputs.ensures.inputs (key_of words.policy))
           (subst (λ (calls : Calls). IsVerdict (inputs_of c.run_inputs-inputs.result (key_of words.policy)) (record {
             names = calls.names;
             bytes = words.bytes;
             fore = c.args.fore.now;
-            back = c.in-Ok-read_back.lines;
+            back = c.in-Ok-split_back.lines;
           }) c.in-Ok-judge_by.verdict) c.run_inputs-inputs.ensures.calls c.in-Ok-judge_by.ensures);
     }

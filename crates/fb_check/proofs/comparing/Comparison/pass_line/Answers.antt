@@ -1,44 +1,33 @@
-use Rattle.std.proofs.Common.{◌≡◌, ◌≢◌, ℕ, ◌-◌, List, Bool, true, false, length, take, true≢false, sym, ap, ◌∙◌}
+use Rattle.std.proofs.Common.{◌-◌, length, take, sym, ap, ◌∙◌, subst}
 use Rattle.std.specs.List.{join_with_byte}
-use Rattle.fb_report.specs.Grammar.{LineFields, ended, spelled}
+use Rattle.fb_report.specs.Grammar.{ended}
+use Rattle.fb_check.specs.Comparing.{DiffersFrom, FindsWrong}
 use Rattle.fb_check.proofs.Beginnings.{trimmed}
-use Rattle.fb_check.proofs.FirstField.{fields_differ}
 use Rattle.fb_check.proofs.comparing.Comparison.pass_line.Goals as goal
 
-pub returns-then-are_joined-clause-due : goal.returns-then-are_joined-clause-due
-returns-then-are_joined-clause-due c =
-    let line = c.requires.whole.0 in
-    let front = trimmed c.args.due.now line c.requires.whole.1 in
+pub returns-in-None-clause-due : goal.returns-in-None-clause-due
+returns-in-None-clause-due c =
+    let front = take (length c.args.due.now - 1) c.args.due.now in
+    let found = c.wrong_at.ensures in
     record {
-      line = c.get-line.result.now;
-      is_due = c.requires.whole.1 ∙ ap ended (sym front ∙ c.are_joined.ensures.0 c.if-are_joined.true);
-      is_printed = c.get-line.ensures;
+      line = found.0;
+      is_due = c.requires.whole.1 ∙ ap ended (sym (trimmed c.args.due.now c.requires.whole.0 c.requires.whole.1)
+          ∙ subst (λ wrong. FindsWrong wrong front found.0) c.in-None.is found.2);
+      is_printed = found.1;
     }
 
--- the printed fields don't spell the due line, which isn't what they join to
-other_line : (due : List ℕ) (printed : LineFields) (joined : Bool) → joined ≡ false
-    → (take (length due - 1) due ≡ join_with_byte 32 printed → joined ≡ true) → due ≢ spelled printed
-other_line due printed joined other same e = true≢false (sym (same (trimmed due (join_with_byte 32 printed) e)) ∙ other)
-
-pub first_wrong_field-requires-clause-differ : goal.first_wrong_field-requires-clause-differ
-first_wrong_field-requires-clause-differ c =
-    let due = c.args.due.now in
-    let line = c.requires.whole.0 in
-    rw (trimmed due line c.requires.whole.1) (fields_differ due line c.get-line.result.now c.requires.whole.1
-    (other_line due c.get-line.result.now _ c.if-are_joined.false c.are_joined.ensures.1))
-
-pub returns-else-are_joined-clause-differs : goal.returns-else-are_joined-clause-differs
-returns-else-are_joined-clause-differs c =
-    let due = c.args.due.now in
-    let front = trimmed due c.requires.whole.0 c.requires.whole.1 in
-    let wrong = c.first_wrong_field.ensures in
+pub returns-in-Some-clause-differs : goal.returns-in-Some-clause-differs
+returns-in-Some-clause-differs c =
+    let front = take (length c.args.due.now - 1) c.args.due.now in
+    let found = c.wrong_at.ensures in
+    let wrong : DiffersFrom front found.0 c.in-Some.field = subst (λ wrong. FindsWrong wrong front found.0) c.in-Some.is found.2 in
     record {
-      due_line = take (length due - 1) due;
-      is_due = c.requires.whole.1 ∙ ap ended (sym front);
-      line = c.get-line.result.now;
-      is_printed = c.get-line.ensures;
-      differs = other_line due c.get-line.result.now _ c.if-are_joined.false c.are_joined.ensures.1;
-      field_index = wrong.0;
-      field_is = wrong.1;
-      fields = wrong.2;
+      due_line = front;
+      is_due = c.requires.whole.1 ∙ ap ended (sym (trimmed c.args.due.now c.requires.whole.0 c.requires.whole.1));
+      line = found.0;
+      is_printed = found.1;
+      differs = λ e. wrong.other (trimmed c.args.due.now (join_with_byte 32 found.0) e);
+      field_index = wrong.field_index;
+      field_is = wrong.field_is;
+      fields = wrong.fields;
     }

@@ -1,0 +1,38 @@
+use Rattle.std.proofs.Common.{rules, tests, ◌≡◌, ◌∙◌, ap, arith}
+use Rattle.std.specs.Prelude.{◌==◌, ◌+◌}
+use Rattle.std.specs.List.{zip}
+use Rattle.std.specs.Str.{bytes_eq}
+use Rattle.std.proofs.lemmas.Iterator.{YieldsList-from_zip}
+use Rattle.std.proofs.lemmas.Iterator.Consumers.{count_from_yields_List, YieldsList-at}
+use Rattle.std.proofs.lemmas.Iterator.Search.{YieldsList-from_take_while}
+use Rattle.std.proofs.lemmas.Iterator.Splits.{YieldsList-from_slice_split}
+use Rattle.std.proofs.lemmas.List.Folds.{length-prefix_len}
+use Rattle.fb_report.specs.Grammar.{report_fields}
+use Rattle.fb_check.proofs.FirstField.{agreeing, differ_at, few_agree}
+use Rattle.fb_check.proofs.fields.first_wrong_part.Goals as goal
+
+counted : (c : goal.After-count) → c.count.result ≡ agreeing (report_fields c.args.due.now) (report_fields c.args.printed.now)
+counted c = count_from_yields_List _ _ c.count.ensures.ran
+    (YieldsList-from_take_while _ (λ p. bytes_eq p.0 p.1)
+    (YieldsList-at c.take_while.ensures.source (YieldsList-from_zip
+    (YieldsList-at c.zip-fields.ensures.first (YieldsList-from_slice_split _ (λ byte. byte == 32) c.args.due.now c.split.ensures.rest
+    c.split.ensures.done c.split.ensures.closure (λ x r q k. search (rules, tests))))
+    (YieldsList-at c.zip-fields.ensures.second (YieldsList-from_slice_split _ (λ byte. byte == 32) c.args.printed.now c.split-2.ensures.rest
+    c.split-2.ensures.done c.split-2.ensures.closure (λ x r q k. search (rules, tests))))))
+    c.take_while.ensures.closure c.take_while.ensures.done (λ x r q k. search (rules, tests)))
+    ∙ length-prefix_len (λ p. bytes_eq p.0 p.1) (zip (report_fields c.args.due.now) (report_fields c.args.printed.now))
+
+pub overflow_cast-result : goal.overflow_cast-result
+overflow_cast-result c =
+    omega (arith, counted c, few_agree (report_fields c.args.due.now) (report_fields c.args.printed.now), c.requires.few)
+
+pub overflow_add-result : goal.overflow_add-result
+overflow_add-result c =
+    omega (arith, counted c, few_agree (report_fields c.args.due.now) (report_fields c.args.printed.now), c.requires.few)
+
+pub returns : goal.returns
+returns c = (
+  _,
+  ap (λ n. n + 1) (counted c),
+  differ_at (report_fields c.args.due.now) (report_fields c.args.printed.now) c.requires.differ,
+)
