@@ -12,11 +12,13 @@ use Rattle.fb_units.proofs.Alike.{same_map, same_map_where}
 use Rattle.fb_service.specs.declared.disk.Disk.{Disk}
 use Rattle.fb_service.specs.declared.passage.Passage.{Passage}
 use Rattle.fb_store.specs.declared.content.Content.{Content}
+use Rattle.fb_store.specs.declared.content.Content.TheVariants.{Filled, Unreadable}
 use Rattle.fb_store.specs.Runs.{runs_of, bad_of}
 use Rattle.fb_store.specs.Writes.{unwritten}
 use Rattle.fb_rows.specs.declared.fore.ForeRow.{ForeRow}
 use Rattle.fb_model.specs.PlainReplay.{Served, media, finish}
 use Rattle.fb_model.specs.Content.{Written, writes_of, Medium, content, content_by, contents_at, fore_row}
+use Rattle.fb_model.specs.Inputs.{HaveSameSectors}
 use Rattle.fb_model.specs.Known.{fore_known}
 use Rattle.fb_model.proofs.Passages.{WritesLate, IsServiceOf, pass_by}
 use Rattle.fb_model.proofs.ReplaysUpTo.{StartsBehind, AlikeBy, both, rest}
@@ -62,11 +64,16 @@ medium_with disk latent replay = record { disk = disk; latent = latent; writes =
 abbrev pub HoldSame : ℕ → Medium → Medium → Type 0
 HoldSame done a b = (lbn u : ℕ) → u ≤ done → content a lbn u ≡ content b lbn u
 
-pub hold_same : (disk : Disk) (latent : List ℕ) (t done : ℕ) (xs ys : List Served) → AlikeBy t done xs ys → AllByRecursion WritesLate xs
-    → AllByRecursion WritesLate ys
-    → HoldSame done (medium_with disk latent xs) (medium_with disk latent ys)
-hold_same disk latent t done xs ys alike late_x late_y = λ lbn u h.
-    ap (λ ws. content_by (last_or None ws) (unwritten latent lbn)) (same_writes t done lbn u h alike late_x late_y)
+-- of latent sectors it doesn't matter in which order they are listed
+same_unwritten : (a b : List ℕ) → HaveSameSectors a b → (lbn : ℕ) → unwritten a lbn ≡ unwritten b lbn
+same_unwritten a b same lbn = ap (λ bad. if bad then Unreadable else Filled 0) (same lbn)
+
+pub hold_same : (disk : Disk) (latent_a latent_b : List ℕ) → HaveSameSectors latent_a latent_b → (t done : ℕ) (xs ys : List Served)
+    → AlikeBy t done xs ys → AllByRecursion WritesLate xs → AllByRecursion WritesLate ys
+    → HoldSame done (medium_with disk latent_a xs) (medium_with disk latent_b ys)
+hold_same disk latent_a latent_b same t done xs ys alike late_x late_y = λ lbn u h.
+    ap₂ (λ ws before. content_by (last_or None ws) before) (same_writes t done lbn u h alike late_x late_y)
+    (same_unwritten latent_a latent_b same lbn)
 
 pub same_contents : (done : ℕ) (a b : Medium) → HoldSame done a b → (lbn n u : ℕ) → u ≤ done → contents_at a lbn n u ≡ contents_at b lbn n u
 same_contents done a b same lbn n u h = same_map (λ sector. (sector, content a sector u)) (λ sector. (sector, content b sector u))
@@ -74,10 +81,9 @@ same_contents done a b same lbn n u h = same_map (λ sector. (sector, content a 
 
 -- ---- the foreground
 
-same_row : (done : ℕ) (a b : Medium) → HoldSame done a b → (disk : Disk) (served : Served) → IsServiceOf disk served → finish served ≤ done
-    → fore_row a served ≡ fore_row b served
-same_row done a b same disk served is ends =
-    ap (λ (sectors : List (ℕ × Content)).
+-- the row of a service that finds these sectors, if it reads
+abbrev row_with : Served → List (ℕ × Content) → ForeRow
+row_with served sectors =
     let runs = if served.request.write then [] else runs_of sectors in
     record {
       request = served.request;
@@ -86,10 +92,26 @@ same_row done a b same disk served is ends =
       finish = finish served;
       bad = bad_of runs;
       content = runs;
-    })
+    }
+
+same_row : (done : ℕ) (a b : Medium) → HoldSame done a b → (disk : Disk) (served : Served) → IsServiceOf disk served → finish served ≤ done
+    → fore_row a served ≡ fore_row b served
+same_row done a b same disk served is ends =
+    ap (row_with served)
     (same_map_where (λ (p : Passage). (p.begin ≤ finish served) × (p.end ≤ finish served))
     (λ (p : Passage). (p.lbn, content a p.lbn p.begin)) (λ (p : Passage). (p.lbn, content b p.lbn p.begin))
     (λ p h. ap (λ c. (p.lbn, c)) (same p.lbn p.begin (omega (arith, h.0, ends)))) served.passages (pass_by disk served is))
+
+pub same_found : (disk : Disk) (a b : List ℕ) (writes : List Written) → HaveSameSectors a b → (replay : List Served)
+    → map (fore_row (record { disk = disk; latent = a; writes = writes })) replay
+    ≡ map (fore_row (record { disk = disk; latent = b; writes = writes })) replay
+same_found disk a b writes same = same_map (fore_row (record { disk = disk; latent = a; writes = writes }))
+    (fore_row (record { disk = disk; latent = b; writes = writes }))
+    (λ served. ap (row_with served)
+    (same_map (λ (p : Passage). (p.lbn, content (record { disk = disk; latent = a; writes = writes }) p.lbn p.begin))
+    (λ (p : Passage). (p.lbn, content (record { disk = disk; latent = b; writes = writes }) p.lbn p.begin))
+    (λ p. ap (λ before. (p.lbn, content_by (last_or None (filter (is_of_by p.lbn p.begin) writes)) before))
+    (same_unwritten a b same p.lbn)) served.passages))
 
 rows_behind : (t done : ℕ) (medium : Medium) (replay : List Served) → AllByRecursion (StartsBehind t done) replay
     → fore_known t (map (fore_row medium) replay) ≡ []

@@ -19,7 +19,7 @@ use Rattle.fb_rows.specs.declared.back.BackRow.TheVariants.{Idle as BackIdle}
 use Rattle.fb_rows.specs.declared.back.DeliveryRow.{DeliveryRow}
 use Rattle.fb_rows.specs.declared.run.Run.{Run}
 use Rattle.fb_model.specs.PlainReplay.{Key, has_arrived, first_track, plain_replay}
-use Rattle.fb_model.specs.Inputs.{Inputs, requests, served}
+use Rattle.fb_model.specs.Inputs.{Inputs, requests, served, HaveSameSectors}
 use Rattle.fb_model.specs.Content.{Medium, Written, contents_at, medium_of, fore_row, fore_rows}
 use Rattle.fb_model.specs.Decisions.{Decision, idles, instant_of, end_of, Act, serving, idling, ending, decision_of, decisions_from}
 use Rattle.fb_model.specs.Decisions.{decisions, among}
@@ -117,23 +117,23 @@ module _ (disk : Disk) (latent : List ℕ) (key : Key) (trace : List Request) (p
 any_delivery : DeliveryRow → Type 0
 any_delivery row = Unit {0}
 
-module _ (disk : Disk) (latent : List ℕ) (key : Key) (trace_a trace_b : List Request) (over_a over_b : ℕ) (calls_a calls_b : List Call)
+module _ (disk : Disk) (latent_a latent_b : List ℕ) (key : Key) (trace_a trace_b : List Request) (over_a over_b : ℕ) (calls_a calls_b : List Call)
     (until_a until_b : ℕ) (writes_a writes_b : List Written)
     (rising_a : RiseInTime calls_a) (rising_b : RiseInTime calls_b)
     (t done : ℕ) (since : t ≤ done) (come : filter (calls_by t) calls_a ≡ filter (calls_by t) calls_b)
-    (hold : HoldSame done (record { disk = disk; latent = latent; writes = writes_a })
-    (record { disk = disk; latent = latent; writes = writes_b })) where
+    (hold : HoldSame done (record { disk = disk; latent = latent_a; writes = writes_a })
+    (record { disk = disk; latent = latent_b; writes = writes_b })) where
   abbrev inputs_a : Inputs
-  inputs_a = record { disk = disk; latent = latent; trace = trace_a; passed_over = over_a; calls = calls_a; key = key; until = until_a }
+  inputs_a = record { disk = disk; latent = latent_a; trace = trace_a; passed_over = over_a; calls = calls_a; key = key; until = until_a }
 
   abbrev inputs_b : Inputs
-  inputs_b = record { disk = disk; latent = latent; trace = trace_b; passed_over = over_b; calls = calls_b; key = key; until = until_b }
+  inputs_b = record { disk = disk; latent = latent_b; trace = trace_b; passed_over = over_b; calls = calls_b; key = key; until = until_b }
 
   abbrev medium_a : Medium
-  medium_a = record { disk = disk; latent = latent; writes = writes_a }
+  medium_a = record { disk = disk; latent = latent_a; writes = writes_a }
 
   abbrev medium_b : Medium
-  medium_b = record { disk = disk; latent = latent; writes = writes_b }
+  medium_b = record { disk = disk; latent = latent_b; writes = writes_b }
 
   agree : AgreeBetween 0 done (contents_at medium_a) (contents_at medium_b)
   agree lbn n u after before = same_contents done medium_a medium_b hold lbn n u before
@@ -152,7 +152,7 @@ module _ (disk : Disk) (latent : List ℕ) (key : Key) (trace_a trace_b : List R
       let chosen_a = chosen_past inputs_a past d in
       let blocks = wanted (chosen_past inputs_b past d) in
       let fine_a = chosen_fine (HasBegun done) inputs_a past d fine in
-      let between = step_between disk latent key trace_b over_b calls_b until_b writes_b (HasBegun done) past step full made fine in
+      let between = step_between disk latent_b key trace_b over_b calls_b until_b writes_b (HasBegun done) past step full made fine in
       record {
         tests = record {
           test = full.tests.test ∙ (ap (λ past. test_rows medium_b past (instant_of d)) (sym chosen)
@@ -197,7 +197,7 @@ module _ (disk : Disk) (latent : List ℕ) (key : Key) (trace_a trace_b : List R
       ∙ (ap (λ past. test_rows medium_b past now) chosen ∙ sym full_b.tests.test)) in
       let pasts : tested x.test ∷ chosen_a ≡ tested y.test ∷ chosen_b = ap₂ (λ rows past. tested rows ∷ past) rows chosen in
       let between =
-      step_between disk latent key trace_a over_a calls_a until_a writes_a (HasBegun done) past (dwelt x dwell_a) full_a tt fine in
+      step_between disk latent_a key trace_a over_a calls_a until_a writes_a (HasBegun done) past (dwelt x dwell_a) full_a tt fine in
       let kept : filter (ends_by_then t) (gots x.deliveries) ≡ filter (ends_by_then t) (gots y.deliveries) =
       ap (filter (ends_by_then t)) full_a.all ∙ (same_by_then disk (contents_at medium_a)
       (contents_at medium_b) t done since agree ByIdle head now end_a end_b late_a late_b (wanted chosen_a)
@@ -239,12 +239,12 @@ module _ (disk : Disk) (latent : List ℕ) (key : Key) (trace_a trace_b : List R
   rest_unknown_a : (past : Past) (steps : List Step) (more : List BackRow) → AllByRecursion (IsLater t disk) (decisions_in steps)
       → AtEach (IsFullStep inputs_a medium_a) inputs_a past steps → AreFine any_delivery past → AreUnknown t more
       → AreUnknown t (flat_map (step_rows disk) steps ++ more)
-  rest_unknown_a = steps_unknown disk latent key trace_a over_a calls_a until_a writes_a t any_delivery any_is
+  rest_unknown_a = steps_unknown disk latent_a key trace_a over_a calls_a until_a writes_a t any_delivery any_is
 
   rest_unknown_b : (past : Past) (steps : List Step) (more : List BackRow) → AllByRecursion (IsLater t disk) (decisions_in steps)
       → AtEach (IsFullStep inputs_b medium_b) inputs_b past steps → AreFine any_delivery past → AreUnknown t more
       → AreUnknown t (flat_map (step_rows disk) steps ++ more)
-  rest_unknown_b = steps_unknown disk latent key trace_b over_b calls_b until_b writes_b t any_delivery any_is
+  rest_unknown_b = steps_unknown disk latent_b key trace_b over_b calls_b until_b writes_b t any_delivery any_is
 
   steps_alike : (past : Past) {ds es : List Decision} → AlikeDecisions t done disk ds es
       → (xs ys : List Step) (more_a more_b : List BackRow) → decisions_in xs ≡ ds → decisions_in ys ≡ es
@@ -262,7 +262,7 @@ module _ (disk : Disk) (latent : List ℕ) (key : Key) (trace_a trace_b : List R
       let one = one_step inputs_a medium_a past x y (same_first _ _ _ _ is_x ∙ sym there) full_a.0 well in
       let rest_a = flat_map (step_rows disk) xs in
       let rest_b = flat_map (step_rows disk) ys in
-      let between = step_between disk latent key trace_a over_a calls_a until_a writes_a (HasBegun done) past y well here.2 fine in
+      let between = step_between disk latent_a key trace_a over_a calls_a until_a writes_a (HasBegun done) past y well here.2 fine in
       let begun : (row : DeliveryRow) → LiesBetween (instant_of (decision_in y)) (end_of (decision_in y)) row → HasBegun done row =
       λ row lies. omega (arith, lies.in_turn, lies.ends, here.1) in
       let each = all_unmapped (HasBegun done) (λ (d : Delivery). d.got) y.deliveries (all_weaker _ _ begun (gots y.deliveries) between) in
@@ -360,12 +360,12 @@ record IsListOf (disk : Disk) (list : List Request) : Type 0 where
 list_of : (inputs : Inputs) → IsAccepted inputs → IsListOf inputs.disk (requests inputs)
 list_of inputs accepted = record { rises = (in_order inputs accepted).ascend; lie = requests_lie inputs accepted }
 
-runs_alike : (t : ℕ) (disk : Disk) (latent : List ℕ) (key : Key) (trace_a trace_b : List Request) (over_a over_b : ℕ)
+runs_alike : (t : ℕ) (disk : Disk) (latent_a latent_b : List ℕ) → HaveSameSectors latent_a latent_b → (key : Key) (trace_a trace_b : List Request) (over_a over_b : ℕ)
     (calls_a calls_b : List Call) (until_a until_b : ℕ) (list_a list_b : List Request) (run_a run_b : Run)
     → IsSound disk.map → IsListOf disk list_a → IsListOf disk list_b → RiseInTime calls_a → RiseInTime calls_b
     → IsRunOf t (record {
       disk = disk;
-      latent = latent;
+      latent = latent_a;
       trace = trace_a;
       passed_over = over_a;
       calls = calls_a;
@@ -374,7 +374,7 @@ runs_alike : (t : ℕ) (disk : Disk) (latent : List ℕ) (key : Key) (trace_a tr
     }) list_a (instants_from list_a calls_a) run_a
     → IsRunOf t (record {
       disk = disk;
-      latent = latent;
+      latent = latent_b;
       trace = trace_b;
       passed_over = over_b;
       calls = calls_b;
@@ -384,7 +384,7 @@ runs_alike : (t : ℕ) (disk : Disk) (latent : List ℕ) (key : Key) (trace_a tr
     → t < run_a.end → t < run_b.end → filter (has_arrived t) list_a ≡ filter (has_arrived t) list_b
     → filter (calls_by t) calls_a ≡ filter (calls_by t) calls_b
     → SameKnown t run_a run_b
-runs_alike t disk latent key trace_a trace_b over_a over_b calls_a calls_b until_a until_b list_a list_b run_a run_b sound accepted_a accepted_b rising_a rising_b full_a full_b long_a long_b arrived come =
+runs_alike t disk latent_a latent_b alike_latent key trace_a trace_b over_a over_b calls_a calls_b until_a until_b list_a list_b run_a run_b sound accepted_a accepted_b rising_a rising_b full_a full_b long_a long_b arrived come =
     let replay_a = plain_replay disk key list_a in
     let replay_b = plain_replay disk key list_b in
     let turns_a = plain_turns (length list_a) disk key first_track 0 list_a (omega arith) in
@@ -393,9 +393,9 @@ runs_alike t disk latent key trace_a trace_b over_a over_b calls_a calls_b until
     alike_turns t disk key first_track 0 list_a list_b replay_a replay_b arrived accepted_a.rises accepted_b.rises turns_a turns_b in
     let late_a = write_late disk key sound first_track 0 list_a replay_a turns_a accepted_a.lie in
     let late_b = write_late disk key sound first_track 0 list_b replay_b turns_b accepted_b.lie in
-    let hold = hold_same disk latent t alike.done replay_a replay_b alike.alike late_a late_b in
-    let medium_a = medium_with disk latent replay_a in
-    let medium_b = medium_with disk latent replay_b in
+    let hold = hold_same disk latent_a latent_b alike_latent t alike.done replay_a replay_b alike.alike late_a late_b in
+    let medium_a = medium_with disk latent_a replay_a in
+    let medium_b = medium_with disk latent_b replay_b in
     let instants_a = instants_from list_a calls_a in
     let instants_b = instants_from list_b calls_b in
     let decided = alike_decisions t alike.done disk key alike.from instants_a instants_b until_a until_b
@@ -409,19 +409,15 @@ runs_alike t disk latent key trace_a trace_b over_a over_b calls_a calls_b until
           ∙ (same_fore t alike.done medium_a medium_b hold disk alike.alike (are_services disk key first_track 0 list_a replay_a turns_a)
           ∙ sym (ap (fore_known t) full_b.fore));
       back = ap (known_from t false) full_a.back
-          ∙ (steps_alike disk latent key trace_a trace_b over_a over_b calls_a calls_b until_a until_b medium_a.writes medium_b.writes
+          ∙ (steps_alike disk latent_a latent_b key trace_a trace_b over_a over_b calls_a calls_b until_a until_b medium_a.writes medium_b.writes
           rising_a rising_b t alike.done alike.from come hold
           [] decided full_a.steps full_b.steps full_a.tasks full_b.tasks full_a.decided full_b.decided full_a.each full_b.each tt
           full_a.unknown full_b.unknown false
           ∙ sym (ap (known_from t false) full_b.back));
     }
 
-same_inputs : (a b : Inputs) → a.disk ≡ b.disk → a.latent ≡ b.latent → a.key ≡ b.key
-    → b ≡ record b { disk = a.disk; latent = a.latent; key = a.key }
-same_inputs a b disk latent key =
-    ap (λ x. record b { disk = x }) (sym disk)
-    ∙ (ap (λ x. record b { disk = a.disk; latent = x }) (sym latent)
-    ∙ ap (λ x. record b { disk = a.disk; latent = a.latent; key = x }) (sym key))
+same_inputs : (a b : Inputs) → a.disk ≡ b.disk → a.key ≡ b.key → b ≡ record b { disk = a.disk; key = a.key }
+same_inputs a b disk key = ap (λ x. record b { disk = x }) (sym disk) ∙ ap (λ x. record b { disk = a.disk; key = x }) (sym key)
 
 -- calls that are the same but for their lines are the same without them
 same_unlined : (t : ℕ) (calls_a calls_b : List Call)
@@ -435,9 +431,9 @@ unlined_rising calls rising = subst IsRising (sym (instants_same calls)) rising
 pub no_look_ahead : (a b : Inputs) (run_a run_b : Run) (t : ℕ) → IsSound a.disk.map → IsAccepted a → IsAccepted b → IsFull a run_a
     → IsFull b run_b → t < run_a.end → t < run_b.end → AgreeUpTo t a b → SameKnown t run_a run_b
 no_look_ahead a b run_a run_b t sound accepted_a accepted_b full_a full_b long_a long_b agree =
-    let is = same_inputs a b agree.disk agree.latent agree.key in
-    let like_a = record b { disk = a.disk; latent = a.latent; key = a.key } in
-    runs_alike t a.disk a.latent a.key a.trace b.trace a.passed_over b.passed_over (map without_line a.calls)
+    let is = same_inputs a b agree.disk agree.key in
+    let like_a = record b { disk = a.disk; key = a.key } in
+    runs_alike t a.disk a.latent b.latent agree.latent a.key a.trace b.trace a.passed_over b.passed_over (map without_line a.calls)
     (map without_line b.calls) a.until b.until (requests a) (requests b) run_a run_b sound
     (list_of a accepted_a) (list_of like_a (subst IsAccepted is accepted_b))
     (unlined_rising a.calls accepted_a.instants) (unlined_rising b.calls accepted_b.instants)

@@ -11,6 +11,7 @@ use Rattle.fb_model.specs.Inputs.{Inputs, served}
 use Rattle.fb_model.specs.Content.{writes_of, fore_row, medium_of, fore_rows}
 use Rattle.fb_model.specs.SoundRun.{IsSound}
 use Rattle.fb_model.specs.Laws.{HaveOneForeground}
+use Rattle.fb_model.proofs.ContentsUpTo.{same_found}
 
 -- the rows, of what they are made from
 abbrev rows_from : Disk → List ℕ → Key → List Request → List Request → List ForeRow
@@ -26,7 +27,8 @@ same_rows : (a b : Inputs) → HaveOneForeground a b → fore_rows a ≡ fore_ro
 same_rows a b h =
     rows_are a
     ∙ ap (λ disk. rows_from disk a.latent a.key a.trace (promoted a.calls)) h.disk
-    ∙ ap (λ latent. rows_from b.disk latent a.key a.trace (promoted a.calls)) h.latent
+    ∙ same_found b.disk a.latent b.latent (flat_map writes_of (plain_replay b.disk a.key (fold behind a.trace (promoted a.calls)))) h.latent
+    (plain_replay b.disk a.key (fold behind a.trace (promoted a.calls)))
     ∙ ap (λ key. rows_from b.disk b.latent key a.trace (promoted a.calls)) h.key
     ∙ ap (λ trace. rows_from b.disk b.latent b.key trace (promoted a.calls)) h.trace
     ∙ ap (rows_from b.disk b.latent b.key b.trace) h.promoted

@@ -8,7 +8,7 @@ use Rattle.fb_rows.specs.declared.back.BackRow.TheVariants.{Gap as BackGap, Idle
 use Rattle.fb_rows.specs.declared.back.BackRow.TheVariants.{Seal as BackSeal, Segment as BackSegment, Complete as BackComplete}
 use Rattle.fb_rows.specs.declared.back.BackRow.TheVariants.{Task as BackTask}
 use Rattle.fb_rows.specs.declared.run.Run.{Run}
-use Rattle.fb_model.specs.Inputs.{Inputs, requests}
+use Rattle.fb_model.specs.Inputs.{Inputs, requests, HaveSameSectors}
 use Rattle.fb_model.specs.Accepted.{IsAccepted}
 use Rattle.fb_model.specs.FullRun.{IsFull}
 
@@ -54,7 +54,7 @@ without_line call = record call { line = 0 }
 -- the inputs agree up to t
 pub record AgreeUpTo (t : ℕ) (a b : Inputs) : Type 0 where
   pub disk : a.disk ≡ b.disk
-  pub latent : a.latent ≡ b.latent
+  pub latent : HaveSameSectors a.latent b.latent
   pub key : a.key ≡ b.key
   pub requests : filter (λ request. nat_le request.arrival t) (requests a) ≡ filter (λ request. nat_le request.arrival t) (requests b)
   pub calls : map without_line (filter (λ call. nat_le call.instant t) a.calls)

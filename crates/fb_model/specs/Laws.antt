@@ -23,7 +23,7 @@ use Rattle.fb_rows.specs.declared.gap.Gap.{Gap}
 use Rattle.fb_rows.specs.declared.gap.Plan.{Plan}
 use Rattle.fb_model.specs.Plans.{IsBest}
 use Rattle.fb_model.specs.Foreground.{promoted}
-use Rattle.fb_model.specs.Inputs.{Inputs, requests}
+use Rattle.fb_model.specs.Inputs.{Inputs, requests, HaveSameSectors}
 use Rattle.fb_model.specs.Content.{fore_rows}
 use Rattle.fb_model.specs.History.{Past, registered, same_block, state_from, bare_state}
 use Rattle.fb_model.specs.SoundRun.{IsSound}
@@ -228,7 +228,7 @@ StatesBeginWithRegistration = (past : Past) (block : Block) (before : State)
 -- inputs that ask for the same foreground, whatever else their calls ask for
 pub record HaveOneForeground (a b : Inputs) : Type 0 where
   pub disk : a.disk ≡ b.disk
-  pub latent : a.latent ≡ b.latent
+  pub latent : HaveSameSectors a.latent b.latent
   pub trace : a.trace ≡ b.trace
   pub key : a.key ≡ b.key
   pub promoted : promoted a.calls ≡ promoted b.calls

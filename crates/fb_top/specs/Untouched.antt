@@ -3,6 +3,7 @@
 use Rattle.std.specs.Prelude.{◌≡◌, ◌⊎◌, ℕ, ◌<◌, ◌≤◌, List, ◌++◌, length, slice_get, false, None, Some, IfSome}
 use Rattle.fb_rows.specs.declared.run.Run.{Run}
 use Rattle.fb_model.specs.Foreground.{promoted}
+use Rattle.fb_model.specs.Inputs.{HaveSameSectors}
 use Rattle.fb_model.specs.Known.{AgreeUpTo, SameKnown}
 use Rattle.fb_model.specs.TheRun.{the_run}
 use Rattle.fb_report.specs.declared.bytes.Bytes.{Bytes}
@@ -33,7 +34,7 @@ use Rattle.fb_top.specs.Written.{OutputFaultsRose, joined}
 -- the same disk, latent sectors and trace, and scripts that ask for the same reads
 pub record AskForOneForeground (one other : Files) : Type 0 where
   pub disk : one.disk ≡ other.disk
-  pub latent : one.latent ≡ other.latent
+  pub latent : HaveSameSectors one.latent other.latent
   pub trace : one.trace ≡ other.trace
   pub reads : promoted one.script.calls ≡ promoted other.script.calls
 

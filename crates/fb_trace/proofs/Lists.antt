@@ -12,11 +12,6 @@ module _ {X : Type 0} (P : X → Type 0) where
   all_take (suc k) [] all = tt
   all_take (suc k) (x ∷ xs) all = (all.0, all_take k xs all.1)
 
-  pub all_set : (k : ℕ) (xs : List X) (x : X) → AllByRecursion P xs → P x → AllByRecursion P (set xs k x)
-  all_set k [] x all h = tt
-  all_set zero (y ∷ xs) x all h = (h, all.1)
-  all_set (suc k) (y ∷ xs) x all h = (all.0, all_set k xs x all.1 h)
-
   pub all_replicate : (n : ℕ) (x : X) → P x → AllByRecursion P (replicate n x)
   all_replicate zero x h = tt
   all_replicate (suc n) x h = (h, all_replicate n x h)

@@ -1,6 +1,6 @@
 -- Lists: their elements by index, their parts, and what holds of each element.
 use Rattle.std.proofs.Common.{◌≡◌, ℕ, zero, suc, ◌+◌, ◌<◌, ◌≤◌, List, [], ◌∷◌, ◌++◌, Bool, false, Option, Some, Result, Ok, Err}
-use Rattle.std.proofs.Common.{drop, take, get_or, length, map, refl, sym, ap, subst, ◌∙◌, arith, inl, inr}
+use Rattle.std.proofs.Common.{drop, take, get_or, length, map, set, refl, sym, ap, subst, ◌∙◌, arith, inl, inr}
 use Rattle.std.specs.Prelude.{OnErr, filter, option_map, slice_get}
 use Rattle.std.specs.List.{AllByRecursion, list_any, range_with_len}
 use Rattle.std.proofs.lemmas.Bool.{cases_Bool, or_parts}
@@ -68,6 +68,11 @@ all_weaker P Q f (x ∷ xs) all = (f x all.0, all_weaker P Q f xs all.1)
 pub all_push : {X : Type 0} (P : X → Type 0) (xs : List X) (x : X) → AllByRecursion P xs → P x → AllByRecursion P (xs ++ x ∷ [])
 all_push P [] x all h = (h, tt)
 all_push P (y ∷ xs) x all h = (all.0, all_push P xs x all.1 h)
+
+pub all_set : {X : Type 0} (P : X → Type 0) (k : ℕ) (xs : List X) (x : X) → AllByRecursion P xs → P x → AllByRecursion P (set xs k x)
+all_set P k [] x all h = tt
+all_set P zero (y ∷ xs) x all h = (h, all.1)
+all_set P (suc k) (y ∷ xs) x all h = (all.0, all_set P k xs x all.1 h)
 
 pub all_append : {X : Type 0} (P : X → Type 0) (xs ys : List X) → AllByRecursion P xs → AllByRecursion P ys → AllByRecursion P (xs ++ ys)
 all_append P [] ys a b = b

@@ -1,5 +1,6 @@
 use Rattle.std.proofs.Common.{List, ℕ, Option, length, ap, refl, sym, subst, ◌∙◌}
-use Rattle.std.specs.Prelude.{◌≡◌, ◌++◌, Bool, if◌then◌else◌}
+use Rattle.std.specs.Prelude.{◌≡◌, ◌++◌, ◌==◌, Bool, if◌then◌else◌}
+use Rattle.std.specs.List.{list_any}
 use Rattle.fb_calls.specs.Reading.{Accepted as Script}
 use Rattle.fb_model.specs.Foreground.{promoted}
 use Rattle.fb_report.specs.declared.bytes.Bytes.{Bytes}
@@ -34,7 +35,7 @@ returns c = λ one other terms replay runs run run' are_runs is_run asks at.
     let fore = c.foreground_is_untouched.ensures (device_inputs terms array device mine.trace) (inputs_of_files files
     (key_of replay.policy) replay.until) run run' (record {
       disk = disk;
-      latent = ap (λ v. v.latent) value;
+      latent = λ lbn. ap (λ v. list_any (λ sector. sector == lbn) v.latent) value;
       trace = ap (λ t. t.requests) trace;
       key = ap key_of (sym asks.policy);
       promoted = devices_promote_none terms.rebuild array device mine.trace are_runs.sound are_runs.accepts.script

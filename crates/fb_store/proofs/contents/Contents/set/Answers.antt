@@ -4,7 +4,8 @@ use Rattle.std.specs.List.{AllByRecursion}
 use Rattle.fb_store.specs.declared.contents.ShortRun.{ShortRun}
 use Rattle.fb_store.specs.Kept.{kept_runs, run_of}
 use Rattle.fb_store.specs.Runs.{IsInRange}
-use Rattle.fb_store.proofs.Kept.{short_set, all_set}
+use Rattle.fb_units.proofs.Lists.{all_set}
+use Rattle.fb_store.proofs.Kept.{short_set}
 use Rattle.fb_store.proofs.contents.Contents.set.Goals as goal
 
 pub returns-in-Some-clause-ok : goal.returns-in-Some-clause-ok

@@ -4,13 +4,13 @@ use Rattle.std.specs.List.{AllByRecursion}
 use Rattle.std.specs.Vec.{with_item}
 use Rattle.std.proofs.lemmas.Bool.Decides.{nat_tests}
 use Rattle.std.proofs.lemmas.List.{length-map, length_push, map-set, take-map}
-use Rattle.fb_units.proofs.Lists.{all_weaker}
+use Rattle.fb_units.proofs.Lists.{all_set, all_weaker}
 use Rattle.fb_units.specs.declared.types.Request.{Request}
 use Rattle.fb_trace.specs.declared.trace.Trace.{Trace}
 use Rattle.fb_trace.specs.Line.{request_of}
 use Rattle.fb_trace.specs.Progress.{requests_of}
 use Rattle.fb_trace.proofs.DevicesRead.{other_read, asked_read, refused_read}
-use Rattle.fb_trace.proofs.Lists.{all_set, all_take, one_of_all, get_or-mapped, same_at}
+use Rattle.fb_trace.proofs.Lists.{all_take, one_of_all, get_or-mapped, same_at}
 use Rattle.fb_trace.proofs.devices.DevicesReader.add.Goals as goal
 
 abbrev own_of : Trace → List Request
