@@ -124,7 +124,13 @@ impl Reader {
                 let task = self.opened(name, weight, block)?;
                 Ok(Allowed { task, blocks: 0 })
             }
-            _ => self.allowed_for(map, name, asked),
+            Asked::Want { .. }
+            | Asked::Abort { .. }
+            | Asked::Promote { .. }
+            | Asked::Suspend
+            | Asked::Resume
+            | Asked::Close
+            | Asked::Segment(_) => self.allowed_for(map, name, asked),
         }
     }
 
@@ -204,7 +210,7 @@ impl Reader {
                 Ok(0)
             }
             Asked::Segment(segment) => self.added(map, session, segment),
-            _ => Ok(0),
+            Asked::Open { .. } | Asked::Suspend | Asked::Resume | Asked::Close => Ok(0),
         }
     }
 

@@ -174,7 +174,7 @@ impl Reader {
                 };
             }
             Asked::Promote { .. } => self.reads += 1,
-            _ => {}
+            Asked::Abort { .. } | Asked::Suspend | Asked::Resume | Asked::Segment(_) => {}
         }
         Ok(())
     }

@@ -78,7 +78,11 @@ fn is_in_call(range: SectorRange, call: &Call, sizes: &[u32]) -> bool
                 count: blocks as u64 * size as u64,
             })
         }
-        _ => false,
+        Action::Open { .. }
+        | Action::Abort { .. }
+        | Action::Suspend
+        | Action::Resume
+        | Action::Close => false,
     }
 }
 
