@@ -14,7 +14,7 @@ use Rattle.fb_store.specs.Sparse.{held_in}
 use Rattle.fb_store.specs.Runs.{runs_of}
 use Rattle.fb_clean.specs.Segments.{LogSegment, Cleaning, no_longer_waiting, without, number_of, first_best, waiting, choice_while}
 use Rattle.fb_clean.specs.Segments.{packed_sectors}
-use Rattle.fb_clean.specs.Numbers.{AreNumbered, AreWithin, IsSound}
+use Rattle.fb_clean.specs.Numbers.{AreNumbered, AreWithin, AreInPlace}
 
 -- the number of a segment says its index
 pub number_at : (n : ℕ) (segments : List LogSegment) (i : ℕ) (s : LogSegment) → AreNumbered n segments → slice_get segments i ≡ Some s
@@ -86,9 +86,9 @@ within_without number block segments within = within_map (stop_at number) (λ s.
 
 -- one more segment
 pub sound_more : (block : ℕ) (segments more : List LogSegment) (unfinished : Option ℕ) (taken more_taken : ℕ) (s : LogSegment)
-    → IsSound block segments unfinished taken → more ≡ segments ++ s ∷ [] → more_taken ≡ taken + 1
+    → AreInPlace block segments unfinished taken → more ≡ segments ++ s ∷ [] → more_taken ≡ taken + 1
     → s.number ≡ length segments + 1 → AllByRecursion (λ lbn. lbn + block ≤ 10 ^ 12) s.live → length segments < 2 ^ 32 - 1
-    → IsSound block more unfinished more_taken
+    → AreInPlace block more unfinished more_taken
 sound_more block segments more unfinished taken more_taken s sound e taken_more number within room =
     let size = ap length e ∙ length_push segments s in
     let as_many = sound.as_many in
@@ -102,8 +102,8 @@ sound_more block segments more unfinished taken more_taken s sound e taken_more 
 
 -- one no longer waits
 pub sound_chosen : (block : ℕ) (segments now : List LogSegment) (unfinished : Option ℕ) (taken i : ℕ) (s : LogSegment)
-    → IsSound block segments unfinished taken → slice_get segments i ≡ Some s → i < length segments
-    → now ≡ without (1 + i) segments → IsSound block now (Some (i + 1)) taken
+    → AreInPlace block segments unfinished taken → slice_get segments i ≡ Some s → i < length segments
+    → now ≡ without (1 + i) segments → AreInPlace block now (Some (i + 1)) taken
 sound_chosen block segments now unfinished taken i s sound at less e =
     let size = ap length e ∙ length-map segments (stop_at (1 + i)) in
     let few = sound.few in
@@ -117,8 +117,8 @@ sound_chosen block segments now unfinished taken i s sound at less e =
     }
 
 -- none waits any longer
-pub sound_left : (block : ℕ) (segments now : List LogSegment) (unfinished : Option ℕ) (taken : ℕ) → IsSound block segments unfinished taken
-    → now ≡ map no_longer_waiting segments → IsSound block now unfinished taken
+pub sound_left : (block : ℕ) (segments now : List LogSegment) (unfinished : Option ℕ) (taken : ℕ) → AreInPlace block segments unfinished taken
+    → now ≡ map no_longer_waiting segments → AreInPlace block now unfinished taken
 sound_left block segments now unfinished taken sound e =
     let size = ap length e ∙ length-map segments no_longer_waiting in
     let few = sound.few in

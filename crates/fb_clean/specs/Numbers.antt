@@ -13,7 +13,7 @@ abbrev pub AreWithin : ℕ → List LogSegment → Type 0
 AreWithin block segments = AllByRecursion (λ segment. AllByRecursion (λ lbn. lbn + block ≤ 10 ^ 12) segment.live) segments
 
 -- the numbers fit, an unfinished segment is one of the segments, and each segment has a store for what is taken for it
-pub record IsSound (block : ℕ) (segments : List LogSegment) (unfinished : Option ℕ) (taken : ℕ) : Type 0 where
+pub record AreInPlace (block : ℕ) (segments : List LogSegment) (unfinished : Option ℕ) (taken : ℕ) : Type 0 where
   pub numbered : AreNumbered 1 segments
   pub few : length segments < 2 ^ 32
   pub within : AreWithin block segments

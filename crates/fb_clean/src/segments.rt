@@ -37,14 +37,14 @@ pub struct Segments {
 impl Model for Segments {
     ghost use Rattle.std.specs.Prelude.{length};
     ghost use Rattle.fb_clean.specs.Segments.{Cleaning};
-    ghost use Rattle.fb_clean.specs.Numbers.{IsSound};
+    ghost use Rattle.fb_clean.specs.Numbers.{AreInPlace};
     ghost use Rattle.fb_clean.specs.Ranks.{AreRanked};
 
     ghost Value = { Cleaning };
 
     ghost view = { λ s. record { block = s.block; segments = s.segments.items; unfinished = s.unfinished; taken = s.taken.items } };
 
-    ghost invariant = { λ s. IsSound s.block s.segments.items s.unfinished (length s.taken.items)
+    ghost invariant = { λ s. AreInPlace s.block s.segments.items s.unfinished (length s.taken.items)
         × AreRanked s.segments.items s.ranks s.passed };
 }
 

@@ -3,13 +3,13 @@ use Rattle.std.specs.Prelude.{◌≡◌, ℕ, ◌+◌, ◌<◌, ◌≤◌, lengt
 use Rattle.fb_geometry.specs.Shape.{Shape, slots_at, turn_position, IsTrackOf}
 use Rattle.fb_geometry.specs.Places.{places, data_list_at}
 use Rattle.fb_geometry.specs.Even.{IsLookedUp}
-use Rattle.fb_sectormap.specs.declared.run.Run.{Run}
+use Rattle.fb_sectormap.specs.declared.run.CylinderRun.{CylinderRun}
 use Rattle.fb_sectormap.specs.declared.span.Span.{Span}
 use Rattle.fb_sectormap.specs.LookUp.{place_at, track_at, neighbour}
 use Rattle.fb_sectormap.specs.Cylinders.{sectors_before}
 
 -- the run has all sectors of its cylinder, and no others
-pub record IsRun (disk : Shape) (run : Run) : Type 0 where
+pub record IsRun (disk : Shape) (run : CylinderRun) : Type 0 where
   pub looked_up : IsLookedUp disk run.on
   pub first : run.first ≡ sectors_before disk run.on.number
   pub end : run.end ≡ run.first + length (data_list_at disk run.on.number)

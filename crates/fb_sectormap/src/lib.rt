@@ -18,6 +18,6 @@ mod worked;
 
 pub use cut::Cut;
 pub use map::SectorMap;
-pub use run::Run;
+pub use run::CylinderRun;
 pub use span::Span;
 pub use worked::small_disks;

@@ -6,7 +6,7 @@ ghost use Rattle.fb_sectormap.specs.LookUp.{IsAt, place_at, track_at, neighbour}
 ghost use Rattle.fb_sectormap.specs.Runs.{IsRun};
 ghost use Rattle.fb_sectormap.specs.Cylinders.{IsFirstOf, CylindersRise, IsSectorOf, TellsSector, TellsFirst};
 
-use crate::Run;
+use crate::CylinderRun;
 use crate::numbering::{CylinderSector, ZoneStart};
 use fb_geometry::{Geometry, Stretch};
 use fb_units::{NoMemory, Place, Track};
@@ -105,7 +105,7 @@ impl SectorMap {
     }
 
     /// All sectors of the cylinder of a sector, for the places of many of them.
-    pub fn run_of(&self, lbn: u64) -> Run
+    pub fn run_of(&self, lbn: u64) -> CylinderRun
         requires { lbn < length (places self.now) }
         ensures run { IsRun self.now result }
         ensures cylinder { result.on.number ≡ (track_at self.now lbn).cylinder }
@@ -114,7 +114,7 @@ impl SectorMap {
     {
         let at = self.by_cylinder(lbn);
         let first = lbn - at.sector as u64;
-        Run {
+        CylinderRun {
             on: self.geometry.cylinder(at.cylinder),
             first,
             end: first + self.geometry.cylinder_sectors(at.cylinder) as u64,
@@ -122,7 +122,7 @@ impl SectorMap {
     }
 
     /// The place of a sector of a run.
-    pub fn place_in(&self, run: &Run, lbn: u64) -> Place
+    pub fn place_in(&self, run: &CylinderRun, lbn: u64) -> Place
         requires run { IsRun self.now run.now }
         requires from { run.now.first ≤ lbn }
         requires before { lbn < run.now.end }

@@ -2,7 +2,7 @@ use fb_geometry::Cylinder;
 
 /// All sectors of a cylinder, looked up once for the places of many of them.
 #[derive(Clone, Copy)]
-pub struct Run {
+pub struct CylinderRun {
     /// The cylinder.
     pub on: Cylinder,
     /// The LBN of its first sector.

@@ -9,7 +9,7 @@ ghost use Rattle.fb_service.specs.Passing.{begin_from};
 ghost use Rattle.fb_service.specs.Approaching.{IsDeparture, IsApproach};
 
 use crate::Disk;
-use fb_sectormap::Run;
+use fb_sectormap::CylinderRun;
 use fb_units::{Ns, Track};
 
 /// The track and the instant at which the head leaves.
@@ -27,7 +27,7 @@ pub struct Departure {
 #[derive(Clone, Copy)]
 pub struct Approach {
     /// The sectors of the cylinder.
-    pub run: Run,
+    pub run: CylinderRun,
     /// The time of the seek to the cylinder, in nanoseconds.
     pub seek: Ns,
 }
