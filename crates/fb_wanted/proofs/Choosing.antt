@@ -41,6 +41,23 @@ all_chosen chosen task change (e ∷ es) each =
       ]
     ]
 
+-- beside the chosen blocks some are picked that the change leaves as they are
+pub more_chosen : (chosen picked : ℕ → Bool) (task : ℕ) (change : Change) (es : List Entry)
+    → ((i : ℕ) (e : Entry) → slice_get (changed_where chosen task change es) i ≡ Some e → picked e.block.index ≡ true
+    → entry_after task change e ≡ e)
+    → changed_where chosen task change es ≡ changed_where (λ k. chosen k || picked k) task change es
+more_chosen chosen picked task change [] each = refl
+more_chosen chosen picked task change (e ∷ es) each =
+    let rest = more_chosen chosen picked task change es (λ i x at. each (suc i) x at) in
+    elim (cases_Bool (chosen e.block.index)) [
+      | inl own ↦ rw own (ap (λ l. entry_after task change e ∷ l) rest)
+      | inr other ↦ elim (cases_Bool (picked e.block.index)) [
+        | inl here ↦ rw (other, here) (ap (λ x. x ∷ changed_where chosen task change es) (sym (each 0 e (rw other refl) here))
+            ∙ ap (λ l. entry_after task change e ∷ l) rest)
+        | inr not_here ↦ rw (other, not_here) (ap (λ l. e ∷ l) rest)
+      ]
+    ]
+
 pub blocks_stay : (chosen : ℕ → Bool) (task : ℕ) (change : Change) (es : List Entry)
     → blocks_of (changed_where chosen task change es) ≡ blocks_of es
 blocks_stay chosen task change [] = refl

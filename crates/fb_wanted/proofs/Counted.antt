@@ -1,16 +1,17 @@
--- The counts of a task, as a block is added or comes into another state.
+-- The counts of the blocks that pass a test, such as those of a task, as a block is added or comes into another state.
 use Rattle.std.proofs.Common.{◌≡◌, ℕ, ◌+◌, ◌≤◌, ◌==◌, inl, inr, List, [], ◌∷◌, ◌++◌, true, false, Bool, length, length-append, filter}
 use Rattle.std.proofs.Common.{slice_get, Some, refl, ap, ◌∙◌, arith}
 use Rattle.std.proofs.lemmas.Bool.{cases_Bool}
 use Rattle.std.proofs.lemmas.List.Elements.{filter-append}
 use Rattle.fb_units.proofs.Counts.{filter-le}
+use Rattle.fb_wanted.specs.declared.block.Block.{Block}
 use Rattle.fb_wanted.specs.declared.block.Counts.{Counts}
 use Rattle.fb_wanted.specs.declared.block.Entry.{Entry}
 use Rattle.fb_wanted.specs.declared.block.State.{State}
 use Rattle.fb_wanted.specs.declared.block.State.TheVariants.{Wanted, Suspended, Delivered, Aborted}
 use Rattle.fb_wanted.specs.declared.block.Change.TheVariants.{Abort}
 use Rattle.fb_wanted.specs.States.{after, shares, is_open, is_abortable, is_delivered, is_aborted}
-use Rattle.fb_wanted.specs.Counting.{of_task, counts_of, no_counts, sum_of, recounted, AreNoMore}
+use Rattle.fb_wanted.specs.Counting.{counted, counts_of, no_counts, sum_of, recounted, AreNoMore}
 use Rattle.fb_wanted.specs.LookUp.{with_state}
 use Rattle.fb_wanted.proofs.Sums.{sum-with_state, sum_at}
 
@@ -18,33 +19,37 @@ use Rattle.fb_wanted.proofs.Sums.{sum-with_state, sum_at}
 pub same_counts : (a b : Counts) → a.registered ≡ b.registered → a.delivered ≡ b.delivered → a.aborted ≡ b.aborted → a ≡ b
 same_counts a b x y z = rw (x, y, z) refl
 
-filtered-append : (p q : Entry → Bool) (xs ys : List Entry)
+pub filtered-append : (p q : Entry → Bool) (xs ys : List Entry)
     → length (filter p (filter q (xs ++ ys))) ≡ length (filter p (filter q xs)) + length (filter p (filter q ys))
 filtered-append p q xs ys = ap (λ l. length (filter p l)) (filter-append q xs ys)
     ∙ (ap length (filter-append p (filter q xs) (filter q ys)) ∙ length-append (filter p (filter q xs)) (filter p (filter q ys)))
 
-pub counts-append : (task : ℕ) (xs ys : List Entry) → counts_of task (xs ++ ys) ≡ sum_of (counts_of task xs) (counts_of task ys)
-counts-append task xs ys =
-    let own = λ (e : Entry). (e.block.task == task) in
+pub counts-append : (test : Block → Bool) (xs ys : List Entry) → counted test (xs ++ ys) ≡ sum_of (counted test xs) (counted test ys)
+counts-append test xs ys =
+    let own = λ (e : Entry). test e.block in
     let a = ap length (filter-append own xs ys) ∙ length-append (filter own xs) (filter own ys) in
     let b = filtered-append (λ e. is_delivered e.state) own xs ys in
     let c = filtered-append (λ e. is_aborted e.state) own xs ys in
     rw (a, b, c) refl
 
 -- no more are delivered or aborted than there are
-pub counts-few : (task : ℕ) (es : List Entry)
-    → ((counts_of task es).registered ≤ length es) × ((counts_of task es).delivered ≤ length es) × ((counts_of task es).aborted ≤ length es)
-counts-few task es =
-    let registered = filter-le (λ e. e.block.task == task) es in
-    let delivered = filter-le (λ e. is_delivered e.state) (of_task task es) in
-    let aborted = filter-le (λ e. is_aborted e.state) (of_task task es) in
+pub counts-few : (test : Block → Bool) (es : List Entry)
+    → ((counted test es).registered ≤ length es) × ((counted test es).delivered ≤ length es) × ((counted test es).aborted ≤ length es)
+counts-few test es =
+    let registered = filter-le (λ e. test e.block) es in
+    let delivered = filter-le (λ e. is_delivered e.state) (filter (λ e. test e.block) es) in
+    let aborted = filter-le (λ e. is_aborted e.state) (filter (λ e. test e.block) es) in
     (registered, omega (arith, registered, delivered), omega (arith, registered, aborted))
 
-pub counts_elsewhere : (task : ℕ) (e : Entry) → (e.block.task == task) ≡ false → counts_of task (e ∷ []) ≡ no_counts
-counts_elsewhere task e other = rw other refl
+pub counts_elsewhere : (test : Block → Bool) (e : Entry) → test e.block ≡ false → counted test (e ∷ []) ≡ no_counts
+counts_elsewhere test e other = rw other refl
 
-counts-cons : (task : ℕ) (x : Entry) (xs : List Entry) → counts_of task (x ∷ xs) ≡ sum_of (counts_of task (x ∷ [])) (counts_of task xs)
-counts-cons task x xs = counts-append task (x ∷ []) xs
+counts-cons : (test : Block → Bool) (x : Entry) (xs : List Entry) → counted test (x ∷ xs) ≡ sum_of (counted test (x ∷ [])) (counted test xs)
+counts-cons test x xs = counts-append test (x ∷ []) xs
+
+-- a block adds the same to the counts for each test that it passes
+pub counts_alike : (p q : Block → Bool) (e : Entry) → p e.block ≡ true → q e.block ≡ true → counted p (e ∷ []) ≡ counted q (e ∷ [])
+counts_alike p q e one two = rw (one, two) refl
 
 -- if nothing is lost and nothing gained, the counts are the same
 pub recounted_none : (lost gained counts : Counts) → lost ≡ no_counts → gained ≡ no_counts → counts ≡ recounted lost gained counts
@@ -53,58 +58,58 @@ recounted_none lost gained counts x y =
     (omega (arith, ap (λ n. n.delivered) x, ap (λ n. n.delivered) y)) (omega (arith, ap (λ n. n.aborted) x, ap (λ n. n.aborted) y))
 
 -- one more block is counted
-pub counts-grown : (task : ℕ) (es : List Entry) (e : Entry)
-    → recounted no_counts (counts_of task (e ∷ [])) (counts_of task es) ≡ counts_of task (es ++ e ∷ [])
-counts-grown task es e =
-    let all = counts-append task es (e ∷ []) in
+pub counts-grown : (test : Block → Bool) (es : List Entry) (e : Entry)
+    → recounted no_counts (counted test (e ∷ [])) (counted test es) ≡ counted test (es ++ e ∷ [])
+counts-grown test es e =
+    let all = counts-append test es (e ∷ []) in
     same_counts _ _ (omega (arith, ap (λ n. n.registered) all)) (omega (arith, ap (λ n. n.delivered) all))
     (omega (arith, ap (λ n. n.aborted) all))
 
 -- the counts of one block are part of those of all
-pub counts_at : (task n : ℕ) (e : Entry) (es : List Entry) → slice_get es n ≡ Some e
-    → AreNoMore (counts_of task (e ∷ [])) (counts_of task es)
-counts_at task n e es at = (
-  sum_at (λ xs. (counts_of task xs).registered) (λ x xs. ap (λ a. a.registered) (counts-cons task x xs)) n e es at,
-  sum_at (λ xs. (counts_of task xs).delivered) (λ x xs. ap (λ a. a.delivered) (counts-cons task x xs)) n e es at,
-  sum_at (λ xs. (counts_of task xs).aborted) (λ x xs. ap (λ a. a.aborted) (counts-cons task x xs)) n e es at,
+pub counts_at : (test : Block → Bool) (n : ℕ) (e : Entry) (es : List Entry) → slice_get es n ≡ Some e
+    → AreNoMore (counted test (e ∷ [])) (counted test es)
+counts_at test n e es at = (
+  sum_at (λ xs. (counted test xs).registered) (λ x xs. ap (λ a. a.registered) (counts-cons test x xs)) n e es at,
+  sum_at (λ xs. (counted test xs).delivered) (λ x xs. ap (λ a. a.delivered) (counts-cons test x xs)) n e es at,
+  sum_at (λ xs. (counted test xs).aborted) (λ x xs. ap (λ a. a.aborted) (counts-cons test x xs)) n e es at,
 )
 
--- one more block of another task doesn't change the counts
-pub counts-grown_other : (task : ℕ) (es : List Entry) (e : Entry) → (e.block.task == task) ≡ false
-    → counts_of task es ≡ counts_of task (es ++ e ∷ [])
-counts-grown_other task es e other = recounted_none no_counts _ (counts_of task es) refl (counts_elsewhere task e other)
-    ∙ counts-grown task es e
+-- one more block that fails doesn't change the counts
+pub counts-grown_other : (test : Block → Bool) (es : List Entry) (e : Entry) → test e.block ≡ false
+    → counted test es ≡ counted test (es ++ e ∷ [])
+counts-grown_other test es e other = recounted_none no_counts _ (counted test es) refl (counts_elsewhere test e other)
+    ∙ counts-grown test es e
 
-module _ (task : ℕ) (s : State) (n : ℕ) (e : Entry) (es : List Entry) (at : slice_get es n ≡ Some e) where
+module _ (test : Block → Bool) (s : State) (n : ℕ) (e : Entry) (es : List Entry) (at : slice_get es n ≡ Some e) where
   -- when a block changes its state, the counts lose its part before and gain its part after
-  pub counts-with_state : recounted (counts_of task (e ∷ [])) (counts_of task (record { block = e.block; state = s } ∷ []))
-      (counts_of task es) ≡ counts_of task (with_state s n es)
+  pub counts-with_state : recounted (counted test (e ∷ [])) (counted test (record { block = e.block; state = s } ∷ []))
+      (counted test es) ≡ counted test (with_state s n es)
   counts-with_state =
-      let part = counts_at task n e es at in
+      let part = counts_at test n e es at in
       same_counts _ _
       (omega (
         arith,
         part.0,
-        sum-with_state (λ xs. (counts_of task xs).registered) (λ x xs. ap (λ a. a.registered) (counts-cons task x xs))
+        sum-with_state (λ xs. (counted test xs).registered) (λ x xs. ap (λ a. a.registered) (counts-cons test x xs))
             s n e es at,
       ))
       (omega (
         arith,
         part.1,
-        sum-with_state (λ xs. (counts_of task xs).delivered) (λ x xs. ap (λ a. a.delivered) (counts-cons task x xs)) s
+        sum-with_state (λ xs. (counted test xs).delivered) (λ x xs. ap (λ a. a.delivered) (counts-cons test x xs)) s
             n e es at,
       ))
       (omega (
         arith,
         part.2,
-        sum-with_state (λ xs. (counts_of task xs).aborted) (λ x xs. ap (λ a. a.aborted) (counts-cons task x xs)) s n e
+        sum-with_state (λ xs. (counted test xs).aborted) (λ x xs. ap (λ a. a.aborted) (counts-cons test x xs)) s n e
             es at,
       ))
 
-  -- a block of another task doesn't change the counts
-  pub counts-with_other : (e.block.task == task) ≡ false → counts_of task es ≡ counts_of task (with_state s n es)
-  counts-with_other other = recounted_none _ _ (counts_of task es) (counts_elsewhere task e other)
-      (counts_elsewhere task (record { block = e.block; state = s }) other) ∙ counts-with_state
+  -- a block that fails doesn't change the counts
+  pub counts-with_other : test e.block ≡ false → counted test es ≡ counted test (with_state s n es)
+  counts-with_other other = recounted_none _ _ (counted test es) (counts_elsewhere test e other)
+      (counts_elsewhere test (record { block = e.block; state = s }) other) ∙ counts-with_state
 
 open_not_aborted : (s : State) → is_open s ≡ true → is_aborted s ≡ false
 open_not_aborted Wanted h = refl

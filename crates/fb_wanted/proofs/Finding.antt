@@ -1,22 +1,21 @@
 -- The blocks of a task that share a sector with a range lie in streaks that begin near it.
-use Rattle.std.proofs.Common.{◌≡◌, ℕ, ◌+◌, ◌-◌, ◌*◌, ◌^◌, ◌<◌, ◌≤◌, ◌⊎◌, inl, inr, List, Bool, true, Some, length, slice_get, refl, ap, sym}
+use Rattle.std.proofs.Common.{◌≡◌, ℕ, ◌+◌, ◌-◌, ◌*◌, ◌^◌, ◌<◌, ◌≤◌, ◌⊎◌, inl, inr, List, Bool, true, Some, length, slice_get, ap, sym}
 use Rattle.std.proofs.Common.{◌∙◌, arith}
-use Rattle.std.specs.BTreeSet.{BTreeSet, contains}
-use Rattle.std.proofs.lemmas.Bool.{cases_Bool, cases_lt}
+use Rattle.std.proofs.lemmas.Bool.{cases_Bool, cases_eq, cases_lt}
 use Rattle.std.proofs.lemmas.Bool.Decides.{nat_tests}
 use Rattle.std.proofs.lemmas.Option.{slice_get_within}
-use Rattle.fb_units.proofs.Counts.{filter-le}
+use Rattle.fb_units.proofs.Lists.{element_at}
 use Rattle.fb_wanted.specs.declared.block.Change.{Change}
 use Rattle.fb_wanted.specs.declared.block.Entry.{Entry}
 use Rattle.fb_wanted.specs.declared.streaks.Streak.{Streak}
 use Rattle.fb_wanted.specs.States.{shares, after}
 use Rattle.fb_wanted.specs.Numbering.{AreInOrder, blocks_of}
-use Rattle.fb_wanted.specs.LookUp.{is_of_task, lbns, region_of, IsUpTo, IsInStreak, BeginsStreak, AreNoted, AreShort, IsWithin}
-use Rattle.fb_wanted.specs.LookUp.{changed_where, key_of, streak_cmp}
+use Rattle.fb_wanted.specs.LookUp.{is_of_task, lbns, region_of, IsUpTo, IsInStreak, BeginsStreak, AreShort, IsWithin}
+use Rattle.fb_wanted.specs.LookUp.{changed_where}
 use Rattle.fb_wanted.proofs.Standing.{among}
 use Rattle.fb_wanted.proofs.Numbers.{number_at}
 use Rattle.fb_wanted.proofs.OfTask.{own_after, others_after}
-use Rattle.fb_wanted.proofs.Regions.{lbn_at, length-lbns, streak_of}
+use Rattle.fb_wanted.proofs.Regions.{lbn_at, streak_of}
 use Rattle.fb_wanted.proofs.Choosing.{all_chosen}
 
 pub up_or_not : (a b : Streak) → IsUpTo a b ⊎ (IsUpTo a b → ⊥)
@@ -31,35 +30,39 @@ up_or_not a b = elim (cases_lt a.region b.region) [
   ]
 ]
 
--- a streak that comes no earlier than another one, and before the next number of its region, is that one
-pub same_streak : (a b : Streak) → IsUpTo a b → (IsUpTo (record { region = a.region; number = a.number + 1 }) b → ⊥) → b ≡ a
-same_streak a b (inl less) not_next = absurd (not_next (inl less))
-same_streak a b (inr same) not_next = elim (cases_lt a.number b.number) [
-  | inl before ↦ absurd (not_next (inr (same.0, omega (arith, before))))
-  | inr there ↦
-      let number : b.number ≡ a.number = omega (arith, same.1, there) in
-      let region : b.region ≡ a.region = sym same.0 in rw (number, region) refl
+-- a streak that comes no earlier than another one, and before a number of its region, lies in its region before that number
+pub streak_between : (a b : Streak) (end : ℕ) → IsUpTo a b → (IsUpTo (record { region = a.region; number = end }) b → ⊥)
+    → (b.region ≡ a.region) × (b.number < end)
+streak_between a b end (inl less) not_next = absurd (not_next (inl less))
+streak_between a b end (inr same) not_next = elim (cases_lt b.number end) [
+  | inl before ↦ (sym same.0, before)
+  | inr there ↦ absurd (not_next (inr (same.0, there)))
 ]
 
--- a streak begins with one of the registered blocks
-pub few_streaks : (task : ℕ) (es : List Entry) (streaks : BTreeSet (ℕ × ℕ × ℕ)) (streak : Streak) → AreNoted es streaks
-    → length es ≤ 16000000 → contains streak_cmp streaks (key_of task streak) ≡ true → streak.number < 16000000
-few_streaks task es streaks streak noted few has =
-    let begins = (noted task streak).0 has in
-    omega (
-      arith,
-      slice_get_within (lbns task es) streak.number begins.lbn begins.at,
-      length-lbns task es,
-      filter-le (is_of_task task) es,
-      few,
-    )
+-- a number whose block begins in another region than the streak isn't that of its first block
+pub behind_first : (lbns : List ℕ) (streak : Streak) (end : ℕ) → BeginsStreak lbns streak → streak.number ≤ end
+    → ((last : ℕ) → slice_get lbns end ≡ Some last → region_of last ≡ streak.region → ⊥) → streak.number < end
+behind_first lbns streak end begins since over = elim (cases_eq streak.number end) [
+  | inl same ↦ absurd (over begins.lbn (ap (slice_get lbns) (sym same) ∙ begins.at) begins.region)
+  | inr other ↦ omega (arith, since, other)
+]
+
+-- the blocks of a streak that begins before such a number come before it
+pub before_end : (lbns : List ℕ) (streak : Streak) (end k : ℕ) → streak.number < end → k < length lbns → IsInStreak lbns streak k
+    → ((last : ℕ) → slice_get lbns end ≡ Some last → region_of last ≡ streak.region → ⊥) → k < end
+before_end lbns streak end k begin within own over = elim (cases_lt k end) [
+  | inl before ↦ before
+  | inr past ↦
+      let last = element_at lbns end (omega (arith, past, within)) in
+      absurd (over last.0 last.1 (own.1 end last.0 (omega (arith, begin)) past last.1))
+]
 
 -- the measure of a walk over streaks
-pub comes_later : (region number : ℕ) (streak : Streak) → IsUpTo (record { region = region; number = number }) streak
-    → streak.region < 2 ^ 64 → streak.number + 1 < 2 ^ 32
-    → (2 ^ 64 - streak.region) * 2 ^ 32 + (2 ^ 32 - (streak.number + 1)) < (2 ^ 64 - region) * 2 ^ 32 + (2 ^ 32 - number)
-comes_later region number streak (inl less) fits few = omega (arith, less, fits, few)
-comes_later region number streak (inr same) fits few = omega (arith, same.0, same.1, fits, few)
+pub comes_later : (region number end : ℕ) (streak : Streak) → IsUpTo (record { region = region; number = number }) streak
+    → streak.region < 2 ^ 64 → streak.number < end → end < 2 ^ 32
+    → (2 ^ 64 - streak.region) * 2 ^ 32 + (2 ^ 32 - end) < (2 ^ 64 - region) * 2 ^ 32 + (2 ^ 32 - number)
+comes_later region number end streak (inl less) fits later few = omega (arith, less, fits, few)
+comes_later region number end streak (inr same) fits later few = omega (arith, same.0, same.1, later, fits, few)
 
 -- the streaks before this one that can reach the range are chosen
 abbrev pub AreChosen : (task first longest : ℕ) (es : List Entry) (chosen : ℕ → Bool) (from : Streak) → Type 0

@@ -10,7 +10,7 @@ use Rattle.fb_wanted.specs.declared.block.Entry.{Entry}
 use Rattle.fb_wanted.specs.declared.block.State.{State}
 use Rattle.fb_wanted.specs.declared.block.Counts.{Counts}
 use Rattle.fb_wanted.specs.declared.tasks.OfTask.{OfTask}
-use Rattle.fb_wanted.specs.Counting.{counts_of, no_counts, recounted}
+use Rattle.fb_wanted.specs.Counting.{counts_of, is_of, no_counts, recounted}
 use Rattle.fb_wanted.specs.Numbering.{AreInOrder, AreSmall, blocks_of, registered_count}
 use Rattle.fb_wanted.specs.States.{is_wanted}
 use Rattle.fb_wanted.specs.Tracks.{wanted_weight}
@@ -110,11 +110,11 @@ module _ (s : State) (n : ℕ) (e : Entry) (es : List Entry) (tracks new : List 
       let same : e.block.task ≡ task = grind (arith, nat_tests) in
       ap (counted_anew (counts_of e.block.task (e ∷ [])) (counts_of e.block.task (changed_entry ∷ []))) kept
       ∙ (ap (λ u. counted_anew (counts_of u (e ∷ [])) (counts_of u (changed_entry ∷ [])) (kept_of_task task es)) same
-      ∙ same_blocks _ _ (sym (indexes_of-with_state (λ b. b.task == task) s n es)) (counts-with_state task s n e es at))
+      ∙ same_blocks _ _ (sym (indexes_of-with_state (λ b. b.task == task) s n es)) (counts-with_state (is_of task) s n e es at))
 
   kept_other : (task : ℕ) → (e.block.task == task) ≡ false → kept_of_task task es ≡ kept_of_task task (with_state s n es)
   kept_other task other = same_blocks _ _ (sym (indexes_of-with_state (λ b. b.task == task) s n es))
-      (counts-with_other task s n e es at other)
+      (counts-with_other (is_of task) s n e es at other)
 
   kept_changed : (tasks more : List OfTask) → IsKept es tasks tracks
       → IsTaskChanged tasks more e.block.task (counted_anew (counts_of e.block.task (e ∷ [])) (counts_of e.block.task (changed_entry ∷ [])))
@@ -156,10 +156,10 @@ module _ (e : Entry) (es : List Entry) (tasks newtasks : List OfTask) (tracks ne
       let same : e.block.task ≡ task = grind (arith, nat_tests) in
       ap (grown_task (length es) e) kept
       ∙ same_blocks _ _ (sym (indexes_of-more_yes (is_of_task task) es e own)) (ap (λ u. recounted no_counts (counts_of u (e ∷ []))
-      (counts_of task es)) same ∙ counts-grown task es e)
+      (counts_of task es)) same ∙ counts-grown (is_of task) es e)
 
   more_other : (task : ℕ) → (e.block.task == task) ≡ false → kept_of_task task es ≡ kept_of_task task (es ++ e ∷ [])
-  more_other task other = same_blocks _ _ (sym (indexes_of-more_no (is_of_task task) es e other)) (counts-grown_other task es e other)
+  more_other task other = same_blocks _ _ (sym (indexes_of-more_no (is_of_task task) es e other)) (counts-grown_other (is_of task) es e other)
 
   more_of_task : (task : ℕ) → get_or tasks task no_blocks ≡ kept_of_task task es
       → IsTaskChanged tasks newtasks e.block.task (grown_task (length es) e)

@@ -12,7 +12,7 @@ use Rattle.fb_units.specs.declared.types.Track.{Track}
 use Rattle.fb_wanted.specs.declared.block.Entry.{Entry}
 use Rattle.fb_wanted.specs.declared.block.Counts.{Counts}
 use Rattle.fb_wanted.specs.declared.tasks.OfTask.{OfTask}
-use Rattle.fb_wanted.specs.Counting.{counts_of, sum_of, AreNoMore, Fit}
+use Rattle.fb_wanted.specs.Counting.{counts_of, is_of, sum_of, AreNoMore, Fit}
 use Rattle.fb_wanted.specs.States.{on_track}
 use Rattle.fb_wanted.specs.declared.depths.Depth.{Depth}
 use Rattle.fb_wanted.specs.Depth.{no_depth, AreDeep}
@@ -58,14 +58,14 @@ module _ (es : List Entry) (tasks : List OfTask) (tracks : List (List OnTrack)) 
 
   pub counts_part : (n : ℕ) (e : Entry) (lost : Counts) → slice_get es n ≡ Some e → lost ≡ counts_of e.block.task (e ∷ [])
       → AreNoMore lost (get_or tasks e.block.task no_blocks).counts
-  counts_part n e lost at is = rw (is, kept_counts e.block.task) (counts_at e.block.task n e es at)
+  counts_part n e lost at is = rw (is, kept_counts e.block.task) (counts_at (is_of e.block.task) n e es at)
 
   -- the counts of a task with one more block fit in their 32 bits
   pub counts_room : (task : ℕ) (e : Entry) (gained : Counts) → gained ≡ counts_of task (e ∷ [])
       → Fit (sum_of (get_or tasks task no_blocks).counts gained)
   counts_room task e gained is =
-      let one = counts-few task (e ∷ []) in
-      let all = counts-few task es in
+      let one = counts-few (is_of task) (e ∷ []) in
+      let all = counts-few (is_of task) es in
       rw (is, kept_counts task) (omega (arith, one.0, all.0, h.few), omega (arith, one.1, all.1, h.few), omega (arith, one.2, all.2, h.few))
 
   pub track_kept : (t : Track) (on : OnTrack) → on ≡ track_at tracks t

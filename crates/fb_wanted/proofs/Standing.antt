@@ -1,6 +1,6 @@
 -- The indexes of blocks among the registered ones.
-use Rattle.std.proofs.Common.{◌≡◌, ℕ, zero, suc, ◌<◌, ◌≤◌, inl, inr, List, [], ◌∷◌, ◌++◌, Bool, true, false, Some, if◌then◌else◌, set}
-use Rattle.std.proofs.Common.{length, filter, map, slice_get, get_or, refl, ap, sym, ◌∙◌, arith, subst}
+use Rattle.std.proofs.Common.{◌≡◌, ℕ, zero, suc, ◌<◌, inl, inr, List, [], ◌∷◌, ◌++◌, Bool, true, false, Some, if◌then◌else◌, set}
+use Rattle.std.proofs.Common.{length, filter, map, slice_get, get_or, refl, ap, sym, ◌∙◌, arith}
 use Rattle.std.proofs.lemmas.Bool.{cases_Bool}
 use Rattle.std.proofs.lemmas.List.{length-map, map-append}
 use Rattle.std.proofs.lemmas.Option.{same_Some, none-some, slice_get_within, slice_get-get_or}
@@ -10,7 +10,7 @@ use Rattle.fb_wanted.specs.declared.block.Entry.{Entry}
 use Rattle.fb_wanted.specs.declared.block.Block.{Block}
 use Rattle.fb_wanted.specs.declared.block.State.{State}
 use Rattle.fb_wanted.specs.Numbering.{blocks_of}
-use Rattle.fb_wanted.specs.LookUp.{indexes_of, with_state, change_nth, change_first}
+use Rattle.fb_wanted.specs.LookUp.{indexes_of, with_state, change_nth}
 
 pub length-indexes_of : (p : Entry → Bool) (es : List Entry) → length (indexes_of p es) ≡ length (filter p es)
 length-indexes_of p [] = refl
@@ -153,52 +153,6 @@ pub nth_changed : (p : Entry → Bool) (f : Entry → Entry) (s : State) (e : En
     → slice_get (indexes_of p es) k ≡ Some j → slice_get es j ≡ Some e → with_state s j es ≡ change_nth p f k es
 nth_changed p f s e [] k j new h at = refl
 nth_changed p f s e (x ∷ es) k j new h at = nth_step p f s x e es (p x) k j (λ i n. nth_changed p f s e es i n new) refl new h at
-
--- the first k entries that pass are changed, and then one more
-pub first_none : (p : Entry → Bool) (f : Entry → Entry) (es : List Entry) → change_first p f 0 es ≡ es
-first_none p f [] = refl
-first_none p f (e ∷ es) = refl
-
-pub first_one_more : (p : Entry → Bool) (f : Entry → Entry) → ((e : Entry) → p (f e) ≡ p e) → (es : List Entry) (k : ℕ)
-    → change_nth p f k (change_first p f k es) ≡ change_first p f (suc k) es
-first_one_more p f stays [] k = refl
-first_one_more p f stays (e ∷ es) zero =
-    let rest : change_nth p f 0 es ≡ change_first p f 1 es = ap (change_nth p f 0) (sym (first_none p f es))
-    ∙ first_one_more p f stays es 0 in
-    elim (cases_Bool (p e)) [
-      | inl yes' ↦ rw yes' (ap (λ l. f e ∷ l) (sym (first_none p f es)))
-      | inr no' ↦ rw no' (ap (λ l. e ∷ l) rest)
-    ]
-first_one_more p f stays (e ∷ es) (suc k) = elim (cases_Bool (p e)) [
-  | inl yes' ↦ rw (yes', stays e ∙ yes') (ap (λ l. f e ∷ l) (first_one_more p f stays es k))
-  | inr no' ↦ rw (no', no') (ap (λ l. e ∷ l) (first_one_more p f stays es (suc k)))
-]
-
-pub passing-first : (p : Entry → Bool) (f : Entry → Entry) → ((e : Entry) → p (f e) ≡ p e) → (es : List Entry) (k : ℕ)
-    → length (filter p (change_first p f k es)) ≡ length (filter p es)
-passing-first p f stays [] k = refl
-passing-first p f stays (e ∷ es) zero = refl
-passing-first p f stays (e ∷ es) (suc k) = elim (cases_Bool (p e)) [
-  | inl yes' ↦ rw (yes', stays e ∙ yes') (ap (λ n. suc n) (passing-first p f stays es k))
-  | inr no' ↦ rw (no', no') (passing-first p f stays es (suc k))
-]
-
-pub first_all : (p : Entry → Bool) (f : Entry → Entry) → ((e : Entry) → p e ≡ false → f e ≡ e) → (es : List Entry) (k : ℕ)
-    → length (filter p es) ≤ k → change_first p f k es ≡ map f es
-first_all p f others [] k le = refl
-first_all p f others (e ∷ es) zero le = elim (cases_Bool (p e)) [
-  | inl yes' ↦ let more : length (filter p (e ∷ es)) ≡ suc (length (filter p es)) = rw yes' refl in absurd (omega (arith, more, le))
-  | inr no' ↦
-      let none : length (filter p es) ≤ 0 = subst (λ b. length (if b then e ∷ filter p es else filter p es) ≤ 0) no' le in
-      ap (λ l. e ∷ l) (sym (first_none p f es) ∙ first_all p f others es 0 none) ∙ ap (λ x. x ∷ map f es) (sym (others e no'))
-]
-first_all p f others (e ∷ es) (suc k) le = elim (cases_Bool (p e)) [
-  | inl yes' ↦ let more : length (filter p (e ∷ es)) ≡ suc (length (filter p es)) = rw yes' refl in
-      rw yes' (ap (λ l. f e ∷ l) (first_all p f others es k (omega (arith, more, le))))
-  | inr no' ↦
-      let fewer : length (filter p es) ≤ suc k = subst (λ b. length (if b then e ∷ filter p es else filter p es) ≤ suc k) no' le in
-      rw no' (ap (λ l. e ∷ l) (first_all p f others es (suc k) fewer) ∙ ap (λ x. x ∷ map f es) (sym (others e no')))
-]
 
 pub passes : (p : Entry → Bool) (es : List Entry) (k : ℕ) (e : Entry) → slice_get (filter p es) k ≡ Some e → p e ≡ true
 passes p es k e h = (filter_from p es k e h).2

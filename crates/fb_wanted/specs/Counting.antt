@@ -1,5 +1,6 @@
--- Counting the blocks of a task by their states.
-use Rattle.std.specs.Prelude.{ℕ, ◌+◌, ◌-◌, ◌≤◌, ◌<◌, ◌^◌, ◌==◌, List, length, filter}
+-- Counting the blocks of a task, and of a group of them, by their states.
+use Rattle.std.specs.Prelude.{ℕ, ◌+◌, ◌-◌, ◌≤◌, ◌<◌, ◌^◌, ◌/◌, ◌==◌, ◌&&◌, Bool, List, length, filter}
+use Rattle.fb_wanted.specs.declared.block.Block.{Block}
 use Rattle.fb_wanted.specs.declared.block.Counts.{Counts}
 use Rattle.fb_wanted.specs.declared.block.Entry.{Entry}
 use Rattle.fb_wanted.specs.States.{is_delivered, is_aborted}
@@ -8,13 +9,24 @@ use Rattle.fb_wanted.specs.States.{is_delivered, is_aborted}
 abbrev pub of_task : ℕ → List Entry → List Entry
 of_task task entries = filter (λ entry. entry.block.task == task) entries
 
+-- how many of the blocks that pass a test are registered, delivered and aborted
+abbrev pub counted : (Block → Bool) → List Entry → Counts
+counted test entries = record {
+  registered = length (filter (λ entry. test entry.block) entries);
+  delivered = length (filter (λ entry. is_delivered entry.state) (filter (λ entry. test entry.block) entries));
+  aborted = length (filter (λ entry. is_aborted entry.state) (filter (λ entry. test entry.block) entries));
+}
+
+abbrev pub is_of : ℕ → Block → Bool
+is_of task block = block.task == task
+
 -- how many blocks of a task are registered, delivered and aborted
 abbrev pub counts_of : ℕ → List Entry → Counts
-counts_of task entries = record {
-  registered = length (of_task task entries);
-  delivered = length (filter (λ entry. is_delivered entry.state) (of_task task entries));
-  aborted = length (filter (λ entry. is_aborted entry.state) (of_task task entries));
-}
+counts_of task entries = counted (is_of task) entries
+
+-- the block is one of a group of its task's: group k has the blocks from 512 k on up to 512 (k + 1)
+abbrev pub is_in_group : ℕ → ℕ → Block → Bool
+is_in_group task group block = is_of task block && (block.index / 512 == group)
 
 -- the sums of two counts
 abbrev pub sum_of : Counts → Counts → Counts

@@ -270,21 +270,24 @@ change_nth test change k [] = []
 change_nth test change zero (e ∷ es) = if test e then change e ∷ es else e ∷ change_nth test change zero es
 change_nth test change (suc k) (e ∷ es) = e ∷ change_nth test change (if test e then k else suc k) es
 
--- the list with a change of the first k entries that pass a test
-abbrev pub change_first : (Entry → Bool) → (Entry → Entry) → ℕ → List Entry → List Entry
-change_first test change k [] = []
-change_first test change zero (e ∷ es) = e ∷ es
-change_first test change (suc k) (e ∷ es) =
-    if test e then change e ∷ change_first test change k es else e ∷ change_first test change (suc k) es
-
 -- all registered blocks after a change of those of a task whose numbers are chosen
 abbrev pub changed_where : (ℕ → Bool) → ℕ → Change → List Entry → List Entry
 changed_where chosen task change entries = map (λ entry. if chosen entry.block.index then entry_after task change entry else entry) entries
 
--- beside the chosen blocks of a task at least those of a streak are changed
-pub record HasChanged (task : ℕ) (change : Change) (streak : Streak) (entries : List Entry)
+-- beside the chosen blocks of a task at least those from one number up to another are changed
+pub record HasChanged (task : ℕ) (change : Change) (from end : ℕ) (entries : List Entry)
     (chosen : ℕ → Bool) (new : List Entry) : Type 0 where
   pub more : ℕ → Bool
   pub is : new ≡ changed_where more task change entries
   pub kept : (k : ℕ) → chosen k ≡ true → more k ≡ true
-  pub own : (k : ℕ) → k < length (lbns task entries) → IsInStreak (lbns task entries) streak k → more k ≡ true
+  pub own : (k : ℕ) → from ≤ k → k < end → more k ≡ true
+
+-- the blocks of a task from one number up to another are changed beside those that were changed before, and perhaps further ones
+abbrev pub AreChanged : ℕ → Change → ℕ → ℕ → List Entry → List Entry → Type 0
+AreChanged task change from end old new = (entries : List Entry) (chosen : ℕ → Bool)
+    → old ≡ changed_where chosen task change entries → HasChanged task change from end entries chosen new
+
+-- the change leaves each block as it is that passes a test
+abbrev pub LeavesAll : (Block → Bool) → Change → List Entry → Type 0
+LeavesAll test change entries = (i : ℕ) (entry : Entry) → slice_get entries i ≡ Some entry → test entry.block ≡ true
+    → state_after change entry.block entry.state ≡ entry.state

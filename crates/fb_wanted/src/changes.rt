@@ -1,15 +1,17 @@
 // Changes of the blocks of a task.
-ghost use Rattle.std.specs.Prelude.{◌≡◌, ◌+◌, ℕ, List, true, false, length, filter};
+ghost use Rattle.std.specs.Prelude.{◌≡◌, ◌+◌, ℕ, Bool, List, true, false, length, filter};
+ghost use Rattle.fb_wanted.specs.declared.block.Block.{Block};
 ghost use Rattle.fb_wanted.specs.declared.block.Entry.{Entry};
-ghost use Rattle.fb_wanted.specs.Counting.{counts_of};
-ghost use Rattle.fb_wanted.specs.States.{shares, is_wanted, is_suspended, is_delivered, is_open, wanted_unless, state_after, after};
+ghost use Rattle.fb_wanted.specs.Counting.{counted};
+ghost use Rattle.fb_wanted.specs.LookUp.{LeavesAll};
+ghost use Rattle.fb_wanted.specs.States.{shares, is_wanted, is_suspended, is_delivered, is_open, wanted_unless, state_after};
 ghost use Rattle.fb_wanted.specs.States.{entry_after, is_block};
 ghost use Rattle.fb_units.specs.Tracks.{same_track};
 
 use crate::{Block, Change, Counts, State};
 
-/// Whether the block shares a sector with the range.
-pub fn shares(block: Block, first: u64, count: u64) -> bool
+// Whether the block shares a sector with the range.
+fn shares(block: Block, first: u64, count: u64) -> bool
     ensures { result ≡ shares first count block }
 {
     if count == 0 {
@@ -117,10 +119,10 @@ fn has_open(counts: Counts) -> bool
     counts.delivered as u64 + counts.aborted as u64 != counts.registered as u64
 }
 
-/// Whether the change may concern a block of a task with these counts: a want again concerns those that are delivered, and
-/// an abort, a suspension and its end those that are neither delivered nor aborted.
+/// Whether the change may concern one of the blocks that have these counts, such as those of a task or of a group: a want again
+/// concerns those that are delivered, and an abort, a suspension and its end those that are neither delivered nor aborted.
 pub fn may_change(counts: Counts, change: Change) -> bool
-    ensures { result ≡ false → (task : ℕ) (es : List Entry) → counts ≡ counts_of task es → after task change es ≡ es }
+    ensures { result ≡ false → (test : Block → Bool) (es : List Entry) → counts ≡ counted test es → LeavesAll test change es }
 {
     let some_open = has_open(counts);
     match change {

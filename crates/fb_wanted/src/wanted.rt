@@ -11,17 +11,18 @@ ghost use Rattle.fb_wanted.specs.Counting.{counts_of, sum_of, Fit};
 ghost use Rattle.fb_wanted.specs.Tracks.{band_of, wanted_weight, IsNextRegistered, NoneIsRegistered};
 ghost use Rattle.fb_wanted.specs.Depth.{depth_at, no_depth};
 ghost use Rattle.fb_wanted.specs.Near.{near_of, SharesNone};
-ghost use Rattle.fb_wanted.specs.LookUp.{indexes_of, is_of_task, lbns, region_of, HasChanged, IsStable, IsWithin, changed_where};
+ghost use Rattle.fb_wanted.specs.LookUp.{indexes_of, is_of_task, lbns, region_of, AreChanged, IsStable, IsWithin};
 ghost use Rattle.fb_wanted.specs.LookUp.{with_state, change_nth, track_at, grown, no_blocks, grown_task, pair_cmp};
 ghost use Rattle.fb_wanted.specs.LookUp.{IsChanged, IsTaskChanged};
 ghost use Rattle.fb_units.specs.declared.types.Track.{Track};
 ghost use Rattle.fb_units.specs.Tracks.{same_track};
 
 use crate::bands::{BAND, band_of};
-use crate::changes::{is_same, may_change, shares, state_after};
+use crate::changes::{is_same, may_change, state_after};
 use crate::counting::{counts_of, no_counts};
 use crate::depths::Depths;
 use crate::greatest::{Greatest, update_greatest};
+use crate::groups::{Groups, next_group};
 use crate::near::{chunk_of, next_near};
 use crate::next::next_track;
 use crate::notes::note;
@@ -46,13 +47,15 @@ use std::marker::Model;
 /// another region of 512 LBNs; and likewise if the block registered before it is another task's or
 /// begins in another chunk of 2,048 LBNs: a note is kept for each of these.
 ///
-/// An abort, a suspension and its end take constant time where each block of the task is delivered or
-/// aborted, and a want again where none is delivered. Else to suspend or to resume takes constant time
-/// for each block of the task, and an abort and a want again look at the regions that the range touches
-/// and at those before it from which the longest block reaches the range: they take constant time for
-/// each of the task's blocks that begin in them, and logarithmic time for each streak of such blocks,
-/// which were registered one after another and begin in one region. A block whose state stays as it is
-/// is read and no more. The next task near a range is found in logarithmic time for each chunk that the
+/// An abort, a suspension and its end concern the blocks that are neither delivered nor aborted, and a want
+/// again those that are delivered: where the task has no such block, they take constant time. Else to
+/// suspend or to resume takes constant time for each group of 512 blocks that were registered one after
+/// another in the task, and for each block of the groups that have such a block. An abort and a want again
+/// look at the regions that the range touches and at those before it from which the longest block reaches
+/// the range: they take logarithmic time for each streak of the task's blocks, which were registered one
+/// after another and begin in one of these regions, and constant time for each group that the streak
+/// touches and for each of its blocks in the groups that have such a block. A block whose state stays as it
+/// is is read and no more. The next task near a range is found in logarithmic time for each chunk that the
 /// range touches and for the one before them.
 ///
 /// When the heaviest track of a cylinder loses weight, each track of that cylinder is looked at, and
@@ -67,6 +70,7 @@ pub struct Wanted {
     alloc: Global,
     entries: Vec<Entry>,
     tasks: Vec<OfTask>,
+    groups: Groups,
     tracks: Tracks,
     streaks: BTreeSet<(u32, u64, u32)>,
     // For each wanted block the index of its offer among those of its track.
@@ -84,6 +88,7 @@ impl Model for Wanted {
     ghost use Rattle.fb_wanted.specs.LookUp.{IsKept, AreNoted, AreGreatest, AreShort, AreOffered, offers_at};
     ghost use Rattle.fb_wanted.specs.Depth.{AreDeep};
     ghost use Rattle.fb_wanted.specs.Near.{AreNear};
+    ghost use Rattle.fb_wanted.specs.Groups.{AreGrouped};
 
     ghost Value = { List Entry };
 
@@ -95,7 +100,8 @@ impl Model for Wanted {
         × AreDeep w.entries.items w.depths
         × AreNear w.entries.items w.near
         × AreShort w.longest w.entries.items
-        × AreOffered w.entries.items (offers_at w.tracks) w.offer_indexes.items };
+        × AreOffered w.entries.items (offers_at w.tracks) w.offer_indexes.items
+        × AreGrouped w.entries.items w.groups };
 }
 
 // Adds a block that is to be registered, and isn't wanted yet, to the look-up by task and by track.
@@ -212,12 +218,10 @@ impl Wanted {
             state,
         };
         self.entries[index as usize] = changed;
-        recount(
-            &mut self.tasks,
-            entry.block.task,
-            counts_of(entry),
-            counts_of(changed),
-        );
+        let before = counts_of(entry);
+        let after = counts_of(changed);
+        recount(&mut self.tasks, entry.block.task, before, after);
+        self.groups.recount(entry.block, before, after);
         let lost = weight_of(entry);
         let gained = weight_of(changed);
         let weight = self.tracks.reweigh(entry.block.track, lost, gained);
@@ -244,15 +248,34 @@ impl Wanted {
         self.set_state(index, state);
     }
 
+    // Changes the task's block whose index in its task is `number`, unless no block of its group can
+    // change; returns the number of the next block, or of the next group's first one.
+    fn change_at(&mut self, task: u32, number: u32, change: Change) -> u32
+        requires there { number < length (filter (is_of_task task) self.old) }
+        requires stable { IsStable change }
+        ensures changed { AreChanged task change number result self.old self.new }
+        ensures on { number < result }
+    {
+        if !may_change(self.groups.at(task, number), change) {
+            return next_group(number);
+        }
+        self.change_block(task, number, change);
+        number + 1
+    }
+
     // Changes each block of the task.
     fn change(&mut self, task: u32, change: Change)
+        requires { IsStable change }
         ensures { self.new ≡ after task change self.old }
     {
         if !may_change(self.counts(task), change) {
             return;
         }
-        for number in 0..self.registered_count(task) {
-            self.change_block(task, number, change);
+        let _ = &self.entries;
+        let end = self.registered_count(task);
+        let mut number = 0;
+        while number < end {
+            number = self.change_at(task, number, change);
         }
     }
 
@@ -289,23 +312,25 @@ impl Wanted {
         chunk_of(last.lbn) != chunk_of(block.lbn)
     }
 
-    // Changes the blocks of a streak of the task that share a sector with the range.
-    fn change_streak(&mut self, task: u32, streak: Streak, first: u64, count: u64, change: Change)
-        requires within { IsWithin change first count }
-        requires stable { IsStable change }
-        ensures { (es : List Entry) (chosen : ℕ → Bool) → self.old ≡ changed_where chosen task change es
-            → HasChanged task change streak es chosen self.new }
+    // Changes the task's blocks from the first one of a streak on, up to one that begins in another
+    // region; returns that one's number, or one behind those of all blocks. The blocks of a group that
+    // can't change are passed over, also if the streak ends before them.
+    fn change_streak(&mut self, task: u32, streak: Streak, change: Change) -> u32
+        requires { IsStable change }
+        ensures changed { AreChanged task change streak.number result self.old self.new }
+        ensures over { (last : ℕ) → slice_get (lbns task self.old) result ≡ Some last → region_of last ≡ streak.region → ⊥ }
+        ensures since { streak.number ≤ result }
     {
-        let _ = &self.entries;
-        for number in streak.number..self.registered_count(task) {
+        let end = self.registered_count(task);
+        let mut number = streak.number;
+        while number < end {
             let block = self.entry_of(task, number).block;
             if region_of(block.lbn) != streak.region {
-                return;
+                return number;
             }
-            if shares(block, first, count) {
-                self.change_block(task, number, change);
-            }
+            number = self.change_at(task, number, change);
         }
+        number
     }
 
     // Changes the blocks of the task that share a sector with the range, streak by streak: no block
@@ -325,9 +350,8 @@ impl Wanted {
             if is_behind(streak.region, first, count) {
                 return;
             }
-            self.change_streak(task, streak, first, count, change);
             region = streak.region;
-            number = streak.number + 1;
+            number = self.change_streak(task, streak, change);
         }
     }
 
@@ -351,6 +375,7 @@ impl Wanted {
         let index = self.entries.len() as u32;
         self.entries.reserve(1)?;
         self.offer_indexes.reserve(1)?;
+        self.groups.add_room(self.alloc, block)?;
         make_room(
             &mut self.near,
             &mut self.greatest,
@@ -361,6 +386,7 @@ impl Wanted {
         note_streak(&mut self.streaks, block.task, streak, begins_streak)?;
         match add_to_look_up(&mut self.tasks, &mut self.tracks, self.alloc, index, entry) {
             Ok(()) => {
+                self.groups.recount(block, no_counts(), counts_of(entry));
                 self.depths.deepen(band_of(block), block);
                 self.longest = self.longest.max(block.count);
                 self.offer_indexes.push_reserved(0);
@@ -382,6 +408,7 @@ impl Wanted {
             alloc,
             entries: Vec::new(alloc),
             tasks: Vec::new(alloc),
+            groups: Groups::new(alloc),
             tracks: Tracks::new(alloc),
             streaks: BTreeSet::new(alloc),
             offer_indexes: Vec::new(alloc),

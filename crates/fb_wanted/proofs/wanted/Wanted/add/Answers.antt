@@ -1,4 +1,4 @@
-use Rattle.std.proofs.Common.{◌≡◌, ℕ, List, Some, false, ◌<◌, ◌-◌, arith, ◌∙◌, ◌++◌, ◌∷◌, [], ap, sym, refl, subst, length, filter}
+use Rattle.std.proofs.Common.{◌≡◌, ℕ, List, Some, false, ◌<◌, ◌-◌, ◌/◌, arith, ◌∙◌, ◌++◌, ◌∷◌, [], ap, sym, refl, subst, length, filter}
 use Rattle.std.proofs.Common.{slice_get}
 use Rattle.std.proofs.lemmas.List.{length-map}
 use Rattle.fb_wanted.specs.declared.block.Block.{Block}
@@ -6,6 +6,7 @@ use Rattle.fb_wanted.specs.declared.block.Entry.{Entry}
 use Rattle.fb_wanted.specs.Near.{near_of, AreNear}
 use Rattle.fb_wanted.specs.Numbering.{blocks_of, registered_count}
 use Rattle.fb_wanted.specs.Depth.{AreDeep}
+use Rattle.fb_wanted.specs.Groups.{AreGrouped}
 use Rattle.fb_wanted.specs.LookUp.{is_of_task, lbns, grown, offers_at, AreGreatest, AreNoted, AreShort, AreOffered, IsKept}
 use Rattle.fb_wanted.specs.declared.block.State.TheVariants.{Suspended}
 use Rattle.fb_wanted.proofs.Offering.{offered_still, offered_pushed}
@@ -16,6 +17,7 @@ use Rattle.fb_wanted.proofs.Noting.{noted_more, noted_back, short_more}
 use Rattle.fb_wanted.proofs.Cylinders.{greatest_still, greatest_same}
 use Rattle.fb_wanted.proofs.Deep.{deep_room, deep_still, deep_pushed}
 use Rattle.fb_wanted.proofs.Nearby.{near_pushed, near_still}
+use Rattle.fb_wanted.proofs.Grouped.{group_room, grouped_still, grouped_pushed}
 use Rattle.fb_wanted.proofs.wanted.Wanted.add.Goals as goal
 use Rattle.fb_wanted.proofs.wanted.Wanted.add.Goals.{After-make_room}
 
@@ -37,7 +39,7 @@ with_room : (c : After-make_room)
     let new = c.make_room.new in
     IsKept items self.tasks.items self.tracks × AreNoted items self.streaks × AreGreatest self.tracks new.greatest
     × AreDeep items new.depths × AreNear items new.near × AreShort self.longest items
-    × AreOffered items (offers_at self.tracks) self.offer_indexes.items
+    × AreOffered items (offers_at self.tracks) self.offer_indexes.items × AreGrouped items c.add_room.new.self
 with_room c =
     let self = c.self.inside in
     let items = self.entries.items in
@@ -51,7 +53,20 @@ with_room c =
       near_still items self.near new.near held.4 stay.near,
       held.5,
       held.6,
+      grouped_still items self.groups held.7 c.add_room.new.self c.add_room.ensures.stay,
     )
+
+pub recount-requires : goal.recount-requires
+recount-requires c =
+    let items = c.self.inside.entries.items in
+    let block = c.args.block in
+    let kept = with_room (goal.at.recount-requires c).After-make_room in
+    record {
+      there = c.in_ok-add_room.ensures.there;
+      part = rw c.no_counts.ensures (omega arith, omega arith, omega arith);
+      room = group_room items c.add_room.new.self kept.7 block.task (block.index / 512) block.task (record { block = block; state = Suspended })
+          c.counts_of.result c.self.invariant.0.few c.counts_of.ensures;
+    }
 
 pub deepen-requires-clause-room : goal.deepen-requires-clause-room
 deepen-requires-clause-room c =
@@ -65,6 +80,21 @@ invariant_of-self c = rw c.in_err-reserve.ensures.items c.self.invariant
 
 pub invariant_of-self-in_err-reserve-2 : goal.invariant_of-self-in_err-reserve-2
 invariant_of-self-in_err-reserve-2 c = rw (c.in_ok-reserve.ensures.items, c.in_err-reserve-2.ensures.items) c.self.invariant
+
+pub invariant_of-self-in_err-add_room : goal.invariant_of-self-in_err-add_room
+invariant_of-self-in_err-add_room c =
+    let self = c.self.inside in
+    let held = c.self.invariant in
+    rw (c.in_ok-reserve.ensures.items, c.in_ok-reserve-2.ensures.items) (
+      held.0,
+      held.1,
+      held.2,
+      held.3,
+      held.4,
+      held.5,
+      held.6,
+      grouped_still self.entries.items self.groups held.7 c.add_room.new.self c.add_room.ensures.stay,
+    )
 
 pub invariant_of-self-in_err-make_room : goal.invariant_of-self-in_err-make_room
 invariant_of-self-in_err-make_room c = rw (c.in_ok-reserve.ensures.items, c.in_ok-reserve-2.ensures.items)
@@ -126,6 +156,9 @@ invariant_of-self-in-Ok c =
           (offered_still items (offers_at self.tracks) (offers_at c.add_to_look_up.new.tracks) self.offer_indexes.items c.self.invariant.6
           (changed_offers self.tracks c.add_to_look_up.new.tracks c.args.block.track (grown c.len-index.result) (λ o. refl)
           c.in-Ok.ensures.tracks)) refl)),
+      subst (λ l. AreGrouped l c.recount.new.self) (sym list)
+          (grouped_pushed items c.add_room.new.self kept.7 c.recount.new.self entry c.no_counts.result c.counts_of.result
+          c.no_counts.ensures c.counts_of.ensures c.recount.ensures),
     )
 
 -- out of memory for the look-up by task or by track: what was noted is taken back
@@ -164,4 +197,5 @@ invariant_of-self-in-Err c =
           (subst (λ l. AreOffered items (offers_at c.add_to_look_up.new.tracks) l) (sym c.in_ok-reserve-2.ensures.items)
           (offered_still items (offers_at self.tracks) (offers_at c.add_to_look_up.new.tracks) self.offer_indexes.items c.self.invariant.6
           (λ t. ap (λ o. o.offers) (stay.tracks_stay t)))),
+      subst (λ es. AreGrouped es c.add_room.new.self) list kept.7,
     )

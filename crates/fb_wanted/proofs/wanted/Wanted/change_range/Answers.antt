@@ -1,12 +1,14 @@
-use Rattle.std.proofs.Common.{◌≡◌, ◌≤◌, ◌-◌, ◌∙◌, true, false, ap, sym, inl, inr, arith, subst}
+use Rattle.std.proofs.Common.{◌≡◌, ◌≤◌, ◌-◌, ◌∙◌, true, false, ap, sym, inl, inr, arith, slice_get, subst}
 use Rattle.std.specs.BTreeSet.{contains}
 use Rattle.std.proofs.lemmas.Bool.{cases_lt, true≢false}
 use Rattle.fb_wanted.specs.declared.streaks.Streak.{Streak}
+use Rattle.fb_wanted.specs.Counting.{is_of}
 use Rattle.fb_wanted.specs.Numbering.{AreInOrder, blocks_of}
-use Rattle.fb_wanted.specs.LookUp.{lbns, region_of, streak_cmp, key_of, BeginsStreak, AreShort, IsInStreak, changed_where}
+use Rattle.fb_wanted.specs.LookUp.{lbns, region_of, streak_cmp, key_of, BeginsStreak, AreShort, changed_where}
 use Rattle.fb_wanted.specs.States.{after}
+use Rattle.fb_wanted.proofs.Changing.{all_left}
 use Rattle.fb_wanted.proofs.Choosing.{none_chosen, lbns_stay}
-use Rattle.fb_wanted.proofs.Finding.{AreBehind, few_streaks, up_or_not, same_streak, comes_later, finished}
+use Rattle.fb_wanted.proofs.Finding.{AreBehind, up_or_not, streak_between, behind_first, before_end, comes_later, finished}
 use Rattle.fb_wanted.proofs.wanted.Wanted.change_range.Goals as goal
 use Rattle.fb_wanted.proofs.wanted.Wanted.change_range.Goals.{After-next_streak}
 
@@ -20,18 +22,19 @@ loop-streak-init c = record {
   ]));
 }
 
-pub overflow_add-number : goal.overflow_add-number
-overflow_add-number c = omega (
-  arith,
-  few_streaks c.args.task c.self-in-loop-streak.inside.entries.items c.self-in-loop-streak.inside.streaks c.in-Some.streak
-      c.self-in-loop-streak.invariant.1 c.self-in-loop-streak.invariant.0.few c.in-Some.ensures.found,
-)
+pub returns-then-not-may_change : goal.returns-then-not-may_change
+returns-then-not-may_change c = sym (all_left c.args.task c.args.change c.args.self.now
+    (c.may_change.ensures c.if-not-may_change.true (is_of c.args.task) c.args.self.now c.counts.ensures))
 
+-- the walk goes on behind the streak's first block
 pub loop-streak-smaller : goal.loop-streak-smaller
 loop-streak-smaller c =
-    let few = few_streaks c.args.task c.self-in-loop-streak.inside.entries.items c.self-in-loop-streak.inside.streaks c.in-Some.streak
-    c.self-in-loop-streak.invariant.1 c.self-in-loop-streak.invariant.0.few c.in-Some.ensures.found in
-    comes_later c.loop-streak.region c.loop-streak.number c.in-Some.streak c.in-Some.ensures.from (omega arith) (omega (arith, few))
+    let streak = c.in-Some.streak in
+    let begins = (c.self-in-loop-streak.invariant.1 c.args.task streak).0 c.in-Some.ensures.found in
+    let here = subst (λ es. BeginsStreak (lbns c.args.task es) streak) c.self-in-loop-streak.view_is begins in
+    let went = c.change_streak-number in
+    comes_later c.loop-streak.region c.loop-streak.number went.result streak c.in-Some.ensures.from (omega arith)
+    (behind_first (lbns c.args.task c.loop-streak.self) streak went.result here went.ensures.since went.ensures.over) (omega arith)
 
 -- the streaks of the blocks at the entry are noted
 noted : (c : After-next_streak) (streak : Streak) → BeginsStreak (lbns c.args.task c.args.self.now) streak
@@ -44,9 +47,12 @@ noted c streak begins =
 
 pub loop-streak-preserved : goal.loop-streak-preserved
 loop-streak-preserved c =
+    let now = c.args.self.now in
     let old = c.loop-streak.invariant in
     let from : Streak = record { region = c.loop-streak.region; number = c.loop-streak.number } in
-    let new = c.change_streak.ensures c.args.self.now old.chosen old.changed in
+    let went = c.change_streak-number in
+    let new = went.ensures.changed now old.chosen old.changed in
+    let same = ap (lbns c.args.task) old.changed ∙ lbns_stay old.chosen c.args.task c.args.task c.args.change now in
     record {
       chosen = new.more;
       changed = new.is;
@@ -54,8 +60,14 @@ loop-streak-preserved c =
         | inr not_up ↦ new.kept k (old.done streak k begins near not_up within own)
         | inl up ↦
             let known = noted (goal.at.loop-streak-preserved c).After-next_streak streak begins in
-            let it = same_streak c.in-Some.streak streak (c.in-Some.ensures.first streak up known) before in
-            new.own k within (subst (λ r. IsInStreak (lbns c.args.task c.args.self.now) r k) it own)
+            let first = c.in-Some.ensures.first streak up known in
+            let it = streak_between c.in-Some.streak streak went.result first before in
+            let since : c.in-Some.streak.number ≤ k = elim first [
+              | inl less ↦ omega (arith, less, it.0)
+              | inr up_to ↦ omega (arith, up_to.1, own.0)
+            ] in
+            new.own k since (before_end (lbns c.args.task now) streak went.result k it.1 within own
+            (λ last at region. went.ensures.over last (ap (λ l. slice_get l went.result) same ∙ at) (region ∙ it.0)))
       ];
     }
 

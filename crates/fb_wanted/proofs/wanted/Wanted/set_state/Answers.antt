@@ -1,10 +1,11 @@
-use Rattle.std.proofs.Common.{◌≡◌, ◌<◌, ◌≤◌, Some, set, slice_get, ◌∙◌, ap, sym, subst, refl, length, arith}
+use Rattle.std.proofs.Common.{◌≡◌, ◌<◌, ◌≤◌, ◌/◌, Some, set, slice_get, ◌∙◌, ap, sym, subst, refl, length, arith}
 use Rattle.std.proofs.lemmas.Option.{slice_get_read}
 use Rattle.fb_wanted.specs.declared.block.Entry.{Entry}
 use Rattle.fb_wanted.specs.LookUp.{with_state, reweighed, indexes_of, is_of_track, offers_at, AreGreatest, AreNoted, AreShort, AreOffered}
 use Rattle.fb_wanted.specs.LookUp.{IsKept}
 use Rattle.fb_wanted.specs.Numbering.{AreSmall, blocks_of}
 use Rattle.fb_wanted.specs.Near.{AreNear}
+use Rattle.fb_wanted.specs.Groups.{AreGrouped}
 use Rattle.fb_wanted.proofs.Standing.{items-with_state}
 use Rattle.fb_wanted.proofs.Numbers.{small_at}
 use Rattle.fb_wanted.proofs.Reading.{its_task_there, its_track_there, weight_small, counts_part, counts_room, weight_part}
@@ -14,6 +15,7 @@ use Rattle.fb_wanted.proofs.Regions.{noted-with_state, short-with_state}
 use Rattle.fb_wanted.proofs.Cylinders.{greatest_same, others_within, greatest_after}
 use Rattle.fb_wanted.proofs.Deep.{deep_set}
 use Rattle.fb_wanted.proofs.Nearby.{near-with_state}
+use Rattle.fb_wanted.proofs.Grouped.{its_group_there, group_part, group_room, grouped_set}
 use Rattle.fb_wanted.proofs.wanted.Wanted.set_state.Goals as goal
 use Rattle.fb_wanted.proofs.wanted.Wanted.set_state.Goals.{After-reoffer, After-reweigh-weight}
 
@@ -70,8 +72,23 @@ recount-requires c =
     let changed : Entry = record { block = entry.block; state = c.args.state } in
     record {
       there = its_task_there items tasks tracks c.self.invariant.0 c.args.index entry at;
-      part = counts_part items tasks tracks c.self.invariant.0 c.args.index entry c.counts_of.result at c.counts_of.ensures;
-      room = counts_room items tasks tracks c.self.invariant.0 entry.block.task changed c.counts_of-2.result c.counts_of-2.ensures;
+      part = counts_part items tasks tracks c.self.invariant.0 c.args.index entry c.counts_of-before.result at c.counts_of-before.ensures;
+      room = counts_room items tasks tracks c.self.invariant.0 entry.block.task changed c.counts_of-after.result c.counts_of-after.ensures;
+    }
+
+pub recount-requires-2 : goal.recount-requires-2
+recount-requires-2 c =
+    let items = c.self.inside.entries.items in
+    let groups = c.self.inside.groups in
+    let entry = c.index-entry.result.now in
+    let block = entry.block in
+    let at = here (goal.at.recount-requires-2 c).After-reoffer in
+    let changed : Entry = record { block = block; state = c.args.state } in
+    record {
+      there = its_group_there items groups c.self.invariant.7 c.args.index entry at;
+      part = group_part items groups c.self.invariant.7 c.args.index entry c.counts_of-before.result at c.counts_of-before.ensures;
+      room = group_room items groups c.self.invariant.7 block.task (block.index / 512) block.task changed c.counts_of-after.result
+          c.self.invariant.0.few c.counts_of-after.ensures;
     }
 
 pub reweigh-weight-requires : goal.reweigh-weight-requires
@@ -94,9 +111,9 @@ kept : (c : After-reweigh-weight) → slice_get c.self.inside.entries.items c.ar
     → IsKept (set c.self.inside.entries.items c.args.index (record { block = c.index-entry.result.now.block; state = c.args.state }))
     c.recount.new.tasks.items c.reweigh-weight.new.self
 kept c at h = kept_set c.args.state c.args.index c.index-entry.result.now c.self.inside.entries.items
-    c.reoffer.new.tracks c.reweigh-weight.new.self at c.self.inside.tasks.items c.recount.new.tasks.items c.counts_of.result
-    c.counts_of-2.result
-    c.weight_of-lost.result c.weight_of-gained.result h c.counts_of.ensures c.counts_of-2.ensures
+    c.reoffer.new.tracks c.reweigh-weight.new.self at c.self.inside.tasks.items c.recount.new.tasks.items c.counts_of-before.result
+    c.counts_of-after.result
+    c.weight_of-lost.result c.weight_of-gained.result h c.counts_of-before.ensures c.counts_of-after.ensures
     c.weight_of-lost.ensures.value c.weight_of-gained.ensures.value c.recount.ensures c.reweigh-weight.ensures.tracks
 
 pub update_greatest-requires : goal.update_greatest-requires
@@ -141,6 +158,9 @@ invariant_of-self c =
       subst (λ l. AreOffered l (offers_at new) offer_indexes) same
           (offered_still (with_state state index items) (offers_at old) (offers_at new) offer_indexes offered
           (changed_offers old new entry.block.track change (λ o. refl) c.reweigh-weight.ensures.tracks)),
+      subst (λ l. AreGrouped l c.recount-2.new.self) same
+          (grouped_set items self.groups c.self.invariant.7 c.recount-2.new.self state index entry c.counts_of-before.result
+          c.counts_of-after.result (here after) c.counts_of-before.ensures c.counts_of-after.ensures c.recount-2.ensures),
     )
 
 pub returns : goal.returns
