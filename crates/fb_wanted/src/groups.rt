@@ -22,13 +22,13 @@ pub fn next_group(number: u32) -> u32
     (number / GROUP + 1) * GROUP
 }
 
-/// The groups of one task, up to the last one with a block.
+// The groups of one task, up to the last one with a block.
 #[derive(Drop)]
-pub struct OfGroups {
+struct TaskGroups {
     counts: Vec<Counts>,
 }
 
-impl Model for OfGroups {
+impl Model for TaskGroups {
     ghost use Rattle.std.specs.Prelude.{List};
     ghost use Rattle.fb_wanted.specs.declared.block.Counts.{Counts};
 
@@ -37,12 +37,12 @@ impl Model for OfGroups {
     ghost view = { λ g. g.counts.items };
 }
 
-impl OfGroups {
+impl TaskGroups {
     // No group.
     fn new(alloc: Global) -> Self
         ensures { result ≡ [] }
     {
-        OfGroups {
+        TaskGroups {
             counts: Vec::new(alloc),
         }
     }
@@ -79,12 +79,12 @@ impl OfGroups {
 }
 
 // Makes room for all tasks up to this one. Counts stay as they are, also out of memory.
-fn add_tasks(tasks: &mut Vec<OfGroups>, alloc: Global, task: u32) -> Result<(), NoMemory>
+fn add_tasks(tasks: &mut Vec<TaskGroups>, alloc: Global, task: u32) -> Result<(), NoMemory>
     ensures stay { (k : ℕ) → get_or tasks.new.items k [] ≡ get_or tasks.old.items k [] }
     ensures there { OnOk result (task < length tasks.new.items) }
 {
     for _ in tasks.len()..task as usize + 1 {
-        tasks.push(OfGroups::new(alloc))?;
+        tasks.push(TaskGroups::new(alloc))?;
     }
     Ok(())
 }
@@ -94,7 +94,7 @@ fn add_tasks(tasks: &mut Vec<OfGroups>, alloc: Global, task: u32) -> Result<(), 
 /// A task has 12 bytes for each group of its blocks, and a task with no block takes no memory of its own.
 #[derive(Drop)]
 pub struct Groups {
-    tasks: Vec<OfGroups>,
+    tasks: Vec<TaskGroups>,
 }
 
 impl Model for Groups {
