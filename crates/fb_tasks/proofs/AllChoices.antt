@@ -140,11 +140,11 @@ module _ (P : Past → Type 0) (disk : Shape) (task : ℕ)
     by_busy true = h
     by_busy false = by_left (unchosen (view past task).work) refl
 
-  by_up_to : (n : ℕ) (past : Past) → P past → P (choose_up_to n disk task past)
+  pub by_up_to : (n : ℕ) (past : Past) → P past → P (choose_up_to n disk task past)
   by_up_to zero past h = h
   by_up_to (suc n) past h = by_up_to n (choose_once disk task past) (by_once past h)
 
-  by_in : (past : Past) → P past → P (choose_in disk past task)
+  pub by_in : (past : Past) → P past → P (choose_in disk past task)
   by_in past h = subst P (sym (in_is disk past task)) (by (is_clean (view past task).terms.kind && not (view past task).closed)) where
     by : (b : Bool) → P (if b then choose_up_to (length (view past task).segments) disk task past else past)
     by true = by_up_to (length (view past task).segments) past h
@@ -157,20 +157,27 @@ in_same disk task other past differ = by_in (λ p. view p other ≡ view past ot
     chosen-silent p task best (chosen_blocks disk task (view p task) best) (added_own disk task (view p task) best) other
     (ne_eqb task other differ) ∙ same) past refl
 
+-- what still holds after each choice of any task holds after the choices of these tasks
+pub by_tasks : (P : Past → Type 0) (disk : Shape) → ((past : Past) (task : ℕ) → P past → (s : LogSegment) (ss : List LogSegment)
+    → unchosen (view past task).work ≡ s ∷ ss → P (best_of_left disk task past (s ∷ ss)))
+    → (ns : List ℕ) (past : Past) → P past → P (fold (choose_in disk) past ns)
+by_tasks P disk kept [] past h = h
+by_tasks P disk kept (n ∷ ns) past h = by_tasks P disk kept ns (choose_in disk past n) (by_in P disk n (λ p. kept p n) past h)
+
 -- what holds after each choice holds after all
 module _ (P : Past → Type 0) (disk : Shape)
     (kept : (past : Past) (task : ℕ) (segment : LogSegment) (blocks : List Block) → P past → P (chose task segment blocks ∷ past)) where
-  pub by_task : (task : ℕ) (past : Past) → P past → P (choose_in disk past task)
-  by_task task past h = by_in P disk task
-      (λ p here s ss are. kept p task (best_of is_better s ss) (chosen_blocks disk task (view p task) (best_of is_better s ss)) here) past h
+  kept_by : (past : Past) (task : ℕ) → P past → (s : LogSegment) (ss : List LogSegment) → unchosen (view past task).work ≡ s ∷ ss
+      → P (best_of_left disk task past (s ∷ ss))
+  kept_by past task h s ss are =
+      kept past task (best_of is_better s ss) (chosen_blocks disk task (view past task) (best_of is_better s ss)) h
 
-  by_tasks : (ns : List ℕ) (past : Past) → P past → P (fold (choose_in disk) past ns)
-  by_tasks [] past h = h
-  by_tasks (n ∷ ns) past h = by_tasks ns (choose_in disk past n) (by_task n past h)
+  pub by_task : (task : ℕ) (past : Past) → P past → P (choose_in disk past task)
+  by_task task past h = by_in P disk task (λ p. kept_by p task) past h
 
   pub by_all : (past : Past) → P past → P (with_choices disk past)
   unfolding with_choices
-  by_all past h = by_tasks (task_numbers past) past h
+  by_all past h = by_tasks P disk kept_by (task_numbers past) past h
 
 pub in_tasks : (disk : Shape) (task : ℕ) (past : Past) → tasks (choose_in disk past task) ≡ tasks past
 in_tasks disk task past = by_task (λ p. tasks p ≡ tasks past) disk (λ p chooser segment blocks same. same) task past refl
@@ -219,7 +226,7 @@ sum_range f g a (suc n) same =
 abbrev pub past_at : Shape → Past → ℕ → Past
 past_at disk past n = fold (choose_in disk) past (range_with_len 0 n)
 
-past_more : (disk : Shape) (past : Past) (n : ℕ) → past_at disk past (n + 1) ≡ choose_in disk (past_at disk past n) n
+pub past_more : (disk : Shape) (past : Past) (n : ℕ) → past_at disk past (n + 1) ≡ choose_in disk (past_at disk past n) n
 past_more disk past n = ap (fold (choose_in disk) past) (range_next n) ∙ fold-append (choose_in disk) past (range_with_len 0 n) (n ∷ [])
 
 -- a session when the first n tasks have chosen
@@ -338,7 +345,7 @@ unfolding with_choices
 all-chosen {disk} {past} {sessions} {held} {instant} {before} {rows} h =
     let new = past_at disk past (length (tasks past)) in
     let numbers = range_with_len 0 (length (tasks past)) in
-    let count = ap length (by_tasks (λ p. tasks p ≡ tasks past) disk (λ p chooser segment blocks same. same) numbers past refl) in
+    let count = ap length (by_tasks (λ p. tasks p ≡ tasks past) disk (λ p chooser same s ss are. same) numbers past refl) in
     let whole = subst (Partly disk past sessions held instant before rows) h.as_many h in (
       record {
         as_many = h.as_many ∙ sym count;

@@ -14,7 +14,8 @@ use Rattle.fb_tasks.proofs.Words.{all_append, all_filter, all_pass, all_flat, al
 use Rattle.fb_tasks.proofs.Words.{filter_same, nat_tests, or-true, length-map, map-append, nil_from_length, filter-append, Kind, is_backup}
 use Rattle.fb_tasks.proofs.Words.{is_clean, ContentRun, runs_of, sectors_of, BackRow, BackSegment, segment_row, segment_rows_found}
 use Rattle.fb_tasks.proofs.Words.{is_newly_cleaned}
-use Rattle.fb_tasks.proofs.Words.{found_for, held_at, HasChosenUpTo}
+use Rattle.fb_tasks.proofs.Words.{found_for, held_at, HasChosenUpTo, HasGrown, HasBegun, HasBegunUpTo, entries_after}
+use Rattle.fb_tasks.proofs.Leaving.{grown_not, grown_behind, begun_whole}
 use Rattle.fb_tasks.proofs.Registered.{fresh_wanted, no_smaller, numbered_joined, registered-entries, named_same}
 use Rattle.fb_tasks.proofs.Cuts.{cuts_own, cuts_numbered, cuts_count}
 use Rattle.fb_tasks.proofs.Segmented.{NumberedFrom, at_number, live_placed, live_cover, live_ascend, numbered_given, choice_kept}
@@ -61,6 +62,16 @@ numbered_below n (b ∷ bs) h = (
       (numbered_below (n + 1) bs h.1),
 )
 
+-- the blocks of each choice are numbered among those that the task has registered
+abbrev pub AreKnown : TaskView → Type 0
+AreKnown v = AllByRecursion (λ choice. AllByRecursion (λ block. block.index < length v.blocks) choice.blocks) v.choices
+
+pub known-blocks : (v : TaskView) → AreNumbered 0 v.blocks → v.blocks ≡ flat_map (λ choice. choice.blocks) v.choices → AreKnown v
+known-blocks v are_numbered blocks = all_flat (λ block. block.index < length v.blocks) (λ (c : Choice). c.blocks) v.choices
+    (subst (AllByRecursion (λ block. block.index < length v.blocks)) blocks
+    (all_weaker (λ b. b.index < 0 + length v.blocks) (λ b. b.index < length v.blocks) (λ b less. omega (arith, less)) v.blocks
+    (numbered_below 0 v.blocks are_numbered)))
+
 module _ (disk : Shape) (task : ℕ) (v : TaskView) (best : LogSegment) where
   abbrev fresh : List Block
   fresh = chosen_blocks disk task v best
@@ -83,25 +94,32 @@ module _ (disk : Shape) (task : ℕ) (v : TaskView) (best : LogSegment) where
   kept_all (s ∷ ss) = grind (arith, nat_tests, kept_all ss, list_any-append (is_choice_of s) v.choices (choice ∷ []))
 
   -- the blocks before stay, and the new ones are wanted
-  pub old_bare : AreNumbered 0 v.blocks
-      → AllByRecursion (λ block. (chosen_view task (chosen_for disk task v best) v).bare block ≡ v.bare block) v.blocks
-  old_bare are_numbered = all_weaker (λ b. b.index < 0 + length v.blocks) (λ block. new.bare block ≡ v.bare block)
-      (λ block less. rw (no_smaller (own_of task block) (length v.blocks) fresh (omega (arith, less)) added_numbered) refl) v.blocks
-      (numbered_below 0 v.blocks are_numbered)
+  old_bare : (block : Block) → block.index < length v.blocks
+      → (chosen_view task (chosen_for disk task v best) v).bare block ≡ v.bare block
+  old_bare block less = rw (no_smaller (own_of task block) (length v.blocks) fresh less added_numbered) refl
 
   pub new_bare : AllByRecursion (λ block. (chosen_view task (chosen_for disk task v best) v).bare block ≡ Wanted)
       (chosen_blocks disk task v best)
   new_bare = fresh_wanted task fresh v.bare new.bare (λ _. refl) added_own
 
-  pub cleaned_same : AreNumbered 0 v.blocks → v.blocks ≡ flat_map (λ choice. choice.blocks) v.choices → AllByRecursion
+  pub cleaned_same : AreKnown v → AllByRecursion
       (λ choice. is_cleaned (chosen_view task (chosen_for disk task v best) v).work choice ≡ is_cleaned v.work choice) v.choices
-  cleaned_same are_numbered blocks = all_weaker (λ (c : Choice). AllByRecursion (λ block. new.bare block ≡ v.bare block) c.blocks)
+  cleaned_same known = all_weaker (λ (c : Choice). AllByRecursion (λ block. block.index < length v.blocks) c.blocks)
       (λ c. is_cleaned new.work c ≡ is_cleaned v.work c)
       (λ c all. all_same (λ block. is_delivered (new.bare block)) (λ block. is_delivered (v.bare block)) c.blocks
-      (all_weaker (λ block. new.bare block ≡ v.bare block) (λ block. is_delivered (new.bare block) ≡ is_delivered (v.bare block))
-      (λ block e. ap is_delivered e) c.blocks all))
-      v.choices (all_flat (λ block. new.bare block ≡ v.bare block) (λ (c : Choice). c.blocks) v.choices
-      (subst (AllByRecursion (λ block. new.bare block ≡ v.bare block)) blocks (old_bare are_numbered)))
+      (all_weaker (λ block. block.index < length v.blocks) (λ block. is_delivered (new.bare block) ≡ is_delivered (v.bare block))
+      (λ block less. ap is_delivered (old_bare block less)) c.blocks all)) v.choices known
+
+  -- the new blocks are known too
+  pub known-more : AreKnown v → AreKnown (chosen_view task (chosen_for disk task v best) v)
+  known-more known =
+      let all = length (v.blocks ++ fresh) in
+      let longer : all ≡ length v.blocks + length fresh = length-append v.blocks fresh in
+      all_append (λ (c : Choice). AllByRecursion (λ block. block.index < all) c.blocks) v.choices (choice ∷ [])
+      (all_weaker (λ (c : Choice). AllByRecursion (λ block. block.index < length v.blocks) c.blocks)
+      (λ c. AllByRecursion (λ block. block.index < all) c.blocks) (λ c less. all_weaker (λ block. block.index < length v.blocks)
+      (λ block. block.index < all) (λ block less. omega (arith, longer)) c.blocks less) v.choices known)
+      (subst (λ n. AllByRecursion (λ block. block.index < n) fresh) (sym longer) (numbered_below (length v.blocks) fresh added_numbered), tt)
 
   module _ (log : clean.Cleaning) (h : Cleans v.work log) (idle : log.unfinished ≡ None) (going : v.closed ≡ false)
       (is_left : IsLeft disk v best) (some : 0 < v.terms.block) (are_numbered : AreNumbered 0 v.blocks) where
@@ -115,7 +133,7 @@ module _ (disk : Shape) (task : ℕ) (v : TaskView) (best : LogSegment) where
     cleaned_all : AllByRecursion (λ c. is_cleaned new.work c ≡ true) h.done
     cleaned_all =
         all_with (λ c. is_cleaned new.work c ≡ is_cleaned v.work c) (λ c. is_cleaned v.work c ≡ true) (λ c. is_cleaned new.work c ≡ true)
-        (λ c same e. same ∙ e) h.done (rw all_done at (cleaned_same are_numbered h.blocks)) h.cleaned
+        (λ c same e. same ∙ e) h.done (rw all_done at (cleaned_same (known-blocks v are_numbered h.blocks))) h.cleaned
 
     -- the choices and the blocks with the new one, whether or not it is cleaned at once
     module _ (done : List Choice) (current : Option Choice) (split : v.choices ++ choice ∷ [] ≡ done ++ choice_in current)
@@ -273,6 +291,24 @@ once_is disk past task = by_left (unchosen (view past task).work) where
   by_left [] = refl
   by_left (s ∷ ss) = refl
 
+-- the choices before one give the rows that they gave
+pub rows-chosen : (disk : Shape) (past : Past) (task : ℕ) (best : LogSegment) → AreKnown (view past task) → (now : ℕ)
+    → segment_rows_found (chose task best (chosen_blocks disk task (view past task) best) ∷ past) now task
+    ≡ segment_rows_found past now task ++ map
+    (segment_row_of (chosen_view task (chosen_for disk task (view past task) best) (view past task)).work now task)
+    (filter (is_newly_cleaned (chosen_view task (chosen_for disk task (view past task) best) (view past task)).work)
+    (chosen_for disk task (view past task) best ∷ []))
+rows-chosen disk past task best known now =
+    let v = view past task in
+    let new = chosen_view task (chosen_for disk task v best) v in
+    let same = filter_same (is_newly_cleaned new.work) (is_newly_cleaned v.work) v.choices
+    (all_weaker (λ choice. is_cleaned new.work choice ≡ is_cleaned v.work choice)
+    (λ choice. is_newly_cleaned new.work choice ≡ is_newly_cleaned v.work choice)
+    (λ choice same. ap (λ b. b && not (v.reported choice.segment.number)) same) v.choices (cleaned_same disk task v best known)) in
+    segment_rows_is (chose task best (chosen_blocks disk task v best) ∷ past) now task
+    ∙ (ap (λ v. segment_rows_of v.work now task) (next_view disk past task best)
+    ∙ rw (segment_rows_is past now task, filter-append, map-append, same) refl)
+
 live_left : (n : ℕ) (ss : List clean.LogSegment)
     → map (λ (s : clean.LogSegment). s.live) (clean.without n ss) ≡ map (λ (s : clean.LogSegment). s.live) ss
 live_left n [] = refl
@@ -358,18 +394,14 @@ module _ {disk : Shape} {past : Past} {task : ℕ} {session : Session} {held : L
     first_wanted [] h all = absurd (omega arith)
     first_wanted (b ∷ bs) h all = rw all.0 refl
 
+  known : AreKnown (view past task)
+  known = known-blocks v (may.blocks.placed task).numbered log_is.blocks
+
   -- the choices before it give the rows that they gave
   rows_now : (best : LogSegment) (now : ℕ) → segment_rows_found (next best) now task
       ≡ segment_rows_found past now task
       ++ map (segment_row_of (after best).work now task) (filter (is_newly_cleaned (after best).work) (chosen_for disk task v best ∷ []))
-  rows_now best now =
-      let same = filter_same (is_newly_cleaned (after best).work) (is_newly_cleaned v.work) v.choices
-      (all_weaker (λ choice. is_cleaned (after best).work choice ≡ is_cleaned v.work choice)
-      (λ choice. is_newly_cleaned (after best).work choice ≡ is_newly_cleaned v.work choice)
-      (λ choice same. ap (λ b. b && not (v.reported choice.segment.number)) same) v.choices
-      (cleaned_same disk task v best (may.blocks.placed task).numbered log_is.blocks)) in
-      segment_rows_is (next best) now task ∙ (ap (λ v. segment_rows_of v.work now task) (next_view disk past task best)
-      ∙ rw (segment_rows_is past now task, filter-append, map-append, same) refl)
+  rows_now best = rows-chosen disk past task best known
 
   module _ (number : ℕ) (step : ChoiceStep disk past task number session) (log : clean.Cleaning)
       (taken : log ≡ clean.after_choice (Some number) session.log) where
@@ -427,6 +459,24 @@ module _ {disk : Shape} {past : Past} {task : ℕ} {session : Session} {held : L
               | inl less ↦ less
               | inr beyond ↦ absurd (none-some step.best (rw (may.blocks.unopened task beyond).segments at step.left.there))
             ]
+
+      -- where not all of them are registered, or the segment's row is not added
+      pub begun-one : {new : List Entry} {more : List BackRow} → HasBegun held (new_entries session (numbered task session.weight
+          (numbering.registered_count task (numbering.blocks_of held)) (cuts_of disk session.block (clean.live_of log number)))) new
+          → more ≡ old → HasBegunUpTo past (choose_once disk task past) task instant held new old more
+      begun-one {new} {more} h same =
+          let all : entries_after (next step.best) ≡ new ++ h.left =
+          sym holds_now.entries ∙ (pushed ∙ begun_whole h) in
+          rw step.once (record {
+            blocks = (record { added = h.added; is = h.is }, record { added = h.left; is = all });
+            rows = λ before so_far.
+                let longer : HasGrown (segment_rows_found past instant task) (segment_rows_found (next step.best) instant task) =
+                record { added = _; is = rows_now step.best instant } in (
+                  subst (HasGrown old) (sym same) (grown_not old),
+                  subst (λ rows. HasGrown rows (before ++ segment_rows_found (next step.best) instant task)) (sym (same ∙ so_far))
+                      (grown_behind before longer),
+                );
+          })
 
       few_now : length (registered past ++ added step.best) + choosable_by disk (next step.best) task ≤ 16 * 10 ^ 6
       few_now = omega (arith, few_less disk past task step.best step.left, may.few)

@@ -65,6 +65,14 @@ cuts_count task weight n (cut ∷ cuts) = rw (cuts_count task weight (n + 1) cut
 pub range_next : (n : ℕ) → range_with_len 0 (n + 1) ≡ range_with_len 0 n ++ n ∷ []
 range_next n = let e : 0 + n ≡ n = omega arith in rw e at (range-append 0 n 1)
 
+-- the numbers before one, that one and those behind it
+pub range_split : (n count : ℕ) → n < count
+    → range_with_len 0 count ≡ range_with_len 0 n ++ n ∷ range_with_len (n + 1) (count - (n + 1))
+range_split n count less =
+    let all : count ≡ n + suc (count - (n + 1)) = omega arith in
+    let start : 0 + n ≡ n = omega arith in
+    ap (range_with_len 0) all ∙ rw start at (range-append 0 n (suc (count - (n + 1))))
+
 -- laid end to end they are the range
 pub cuts_cover : (disk : Shape) (task weight block n from end : ℕ) (cuts : List Cut) → AreCuts disk block from end cuts
     → flat_map (λ part. range_with_len part.lbn part.count) (numbered task weight n cuts) ≡ range_with_len from (end - from)

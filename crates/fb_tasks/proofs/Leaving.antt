@@ -1,13 +1,12 @@
 -- Lists that only grow, and what a call leaves that ran out of memory.
 use Rattle.std.specs.Prelude.{Result, Ok, Err, OnOk}
-use Rattle.fb_tasks.proofs.Words.{◌≡◌, ◌≤◌, ◌+◌, ℕ, List, [], ◌∷◌, ◌++◌, true, false, Some, inl, inr, length, map, set, slice_get, take}
-use Rattle.fb_tasks.proofs.Words.{drop, append-nil, append_assoc, length-append, refl, ap, sym, ◌∙◌, subst, arith, AllByRecursion}
-use Rattle.fb_tasks.proofs.Words.{range_with_len, map-set_same, cases_Bool, map-append, append_cancel_left, length-map, take-append-drop}
-use Rattle.fb_tasks.proofs.Words.{take-map, filter-append, slice_get_within, get_or_from_slice_get, Cut, is_clean, Block, Entry, blocks_of}
-use Rattle.fb_tasks.proofs.Words.{wanted_unless, numbered, same_number, Session, new_entries, HasGrown, HasBegun, OnlyRegisters, MayClean}
-use Rattle.fb_tasks.proofs.Words.{OnlyTouched, by_calls, all_append, all_left, all_map, all_weaker, map_at, element_at, same_Some}
-use Rattle.fb_tasks.proofs.Words.{take-map-range_with_len, ◌&&◌, not, and_parts, not-true}
-use Rattle.fb_tasks.proofs.{Frames.get_other, Cuts.cuts_own}
+use Rattle.fb_tasks.proofs.Words.{◌≡◌, ◌≤◌, ◌<◌, ◌+◌, ◌-◌, ℕ, List, [], ◌∷◌, ◌++◌, Some, map, set, slice_get, take, drop}
+use Rattle.fb_tasks.proofs.Words.{append-nil, append_assoc, length-append, refl, ap, sym, ◌∙◌, subst, arith, flat_map, flat_map-append}
+use Rattle.fb_tasks.proofs.Words.{range_with_len, map-set_same, map-append, append_cancel_left, take-append-drop, true}
+use Rattle.fb_tasks.proofs.Words.{take-map, filter-append, get_or_from_slice_get, Cut, Block, Entry, blocks_of}
+use Rattle.fb_tasks.proofs.Words.{wanted_unless, numbered, same_number, Session, new_entries, HasGrown, HasBegun}
+use Rattle.fb_tasks.proofs.Words.{OnlyTouched, by_calls, take-map-range_with_len}
+use Rattle.fb_tasks.proofs.{Frames.get_other, Cuts.range_split}
 use Rattle.fb_wanted.specs.Numbering.{registered_count}
 
 pub grown_not : {A : Type 0} (xs : List A) → HasGrown xs xs
@@ -46,6 +45,34 @@ begun_by {A} {old} {due} rest h all = record {
   first = append_cancel_left old due (h.added ++ rest) (sym all ∙ (ap (λ l. l ++ rest) h.is ∙ append_assoc old h.added rest));
 }
 
+-- and the other way round
+pub begun_whole : {A : Type 0} {old due new : List A} (h : HasBegun old due new) → old ++ due ≡ new ++ h.left
+begun_whole {A} {old} {due} h = ap (λ l. old ++ l) h.first ∙ (sym (append_assoc old h.added h.left) ∙ ap (λ l. l ++ h.left) (sym h.is))
+
+-- what follows is a first part of what was due
+pub begun_between : {A : Type 0} {old due new : List A} → HasGrown old new → HasGrown new (old ++ due) → HasBegun old due new
+begun_between grown rest = begun_by rest.added grown (sym rest.is)
+
+-- some of what was due stands, and the next part of it has begun
+pub begun_next : {A : Type 0} {old mid due all new : List A} (rest : List A) → HasGrown old mid → HasBegun mid due new
+    → (mid ++ due) ++ rest ≡ old ++ all → HasBegun old all new
+begun_next {A} {old} {mid} {due} {all} {new} rest grown h is = begun_by (h.left ++ rest)
+    (grown_more old mid new grown (record { added = h.added; is = h.is }))
+    (sym (append_assoc new h.left rest) ∙ (ap (λ l. l ++ rest) (sym (begun_whole h)) ∙ is))
+
+-- what stands in front changes nothing
+pub grown_behind : {A : Type 0} (before : List A) {xs ys : List A} → HasGrown xs ys → HasGrown (before ++ xs) (before ++ ys)
+grown_behind before {xs} h = record { added = h.added; is = ap (λ l. before ++ l) h.is ∙ sym (append_assoc before xs h.added) }
+
+-- what the first tasks give stands, and what the next one gives has begun
+pub begun_each : {X : Type 0} (f : ℕ → List X) {before rows more : List X} (n count : ℕ) → n < count
+    → rows ≡ before ++ flat_map f (range_with_len 0 n) → HasBegun rows (f n) more
+    → HasBegun before (flat_map f (range_with_len 0 count)) more
+begun_each f {before} {rows} {more} n count less so_far h =
+    let numbers : range_with_len 0 count ≡ range_with_len 0 n ++ n ∷ range_with_len (n + 1) (count - (n + 1)) = range_split n count less in
+    subst (λ due. HasBegun before due more) (sym (rw (numbers, flat_map-append) refl))
+    (begun_after (flat_map f (range_with_len 0 n)) so_far (begun_longer (flat_map f (range_with_len (n + 1) (count - (n + 1)))) h))
+
 -- the first of a list give what is due for them
 begun_part : {B : Type 0} {old new : List B} (n : ℕ) (due : List B) → new ≡ old ++ take n due → HasBegun old due new
 begun_part n due is = record { added = take n due; left = drop n due; is = is; first = sym (take-append-drop n due) }
@@ -58,33 +85,6 @@ begun_mapped f n xs is = begun_part n (map f xs) (rw take-map is)
 pub begun_counted : {B : Type 0} {old new : List B} (f : ℕ → B) (n all : ℕ) → n ≤ all → new ≡ old ++ map f (range_with_len 0 n)
     → HasBegun old (map f (range_with_len 0 all)) new
 begun_counted f n all within is = begun_part n (map f (range_with_len 0 all)) (rw (take-map-range_with_len f 0 all n within) is)
-
-pub registers_none : (P : ℕ → Type 0) (held : List Entry) → OnlyRegisters P held held
-unfolding grown_not
-registers_none P held = record { grown = grown_not held; own = tt }
-
-pub registers_more : (P : ℕ → Type 0) (xs ys zs : List Entry) → OnlyRegisters P xs ys → OnlyRegisters P ys zs → OnlyRegisters P xs zs
-unfolding grown_more
-registers_more P xs ys zs a b =
-    record { grown = grown_more xs ys zs a.grown b.grown; own = all_append (λ e. P e.block.task) a.grown.added b.grown.added a.own b.own }
-
-pub registers_weaker : (P Q : ℕ → Type 0) (xs ys : List Entry) → ((task : ℕ) → P task → Q task) → OnlyRegisters P xs ys
-    → OnlyRegisters Q xs ys
-registers_weaker P Q xs ys f h =
-    record { grown = h.grown; own = all_weaker (λ e. P e.block.task) (λ e. Q e.block.task) (λ e. f e.block.task) h.grown.added h.own }
-
--- a task's blocks of a range are its own
-pub begun_own : (task n : ℕ) (session : Session) (cuts : List Cut) (old new : List Entry)
-    → HasBegun old (new_entries session (numbered task session.weight n cuts)) new → OnlyRegisters (λ other. other ≡ task) old new
-begun_own task n session cuts old new h =
-    let is_own = λ (entry : Entry). entry.block.task ≡ task in
-    let blocks = numbered task session.weight n cuts in
-    let all = all_map is_own (λ block. record { block = block; state = wanted_unless session.suspended }) blocks (cuts_own task
-    session.weight n cuts) in
-    record {
-      grown = record { added = h.added; is = h.is };
-      own = all_left is_own h.added h.left (subst (AllByRecursion is_own) h.first all);
-    }
 
 pub touched_none : (sessions : List Session) → OnlyTouched sessions sessions
 touched_none sessions = record { calls = refl; untouched = λ _ _ at _. at }
@@ -102,38 +102,6 @@ touched_set olds items n session new at touched same h = record {
   calls = map-set_same by_calls items n new session (same ∙ ap by_calls (sym (get_or_from_slice_get items n session session at))) ∙ h.calls;
   untouched = λ k other there free. let here = h.untouched k other there free in get_other items n k new (λ e. absurd (grind arith)) ∙ here;
 }
-
--- an open clean session that was touched had been one before
-pub clean_before : (olds items : List Session) (n : ℕ) (session : Session) → slice_get items n ≡ Some session → is_clean session.kind ≡ true
-    → session.closed ≡ false → session.touched ≡ true → OnlyTouched olds items → MayClean olds n
-clean_before olds items n session at clean is_open touched h =
-    let size : length olds ≡ length items = simp length-map at (ap length (sym h.calls)) in
-    let was = element_at olds n (omega (arith, size, slice_get_within items n session at)) in
-    let same : by_calls was.0 ≡ by_calls session = same_Some (by_calls was.0) (by_calls session)
-    (sym (map_at by_calls olds n was.0 was.1) ∙ rw (sym h.calls) (map_at by_calls items n session at)) in
-    record {
-      session = was.0;
-      at = was.1;
-      clean = ap (λ t. is_clean t.0) same ∙ clean;
-      is_open = ap (λ t. t.4) same ∙ is_open;
-      touched = elim (cases_Bool was.0.touched) [ inl is ↦ is | inr free ↦ let here = h.untouched n was.0 was.1 free in grind arith ];
-    }
-
--- a touched session has chosen
-pub chosen_own : (olds items : List Session) (n : ℕ) (session : Session) (old before now : List Entry) → slice_get items n ≡ Some session
-    → session.touched ≡ true → OnlyTouched olds items
-    → OnlyRegisters (MayClean olds) old before → OnlyRegisters (λ other. other ≡ n) before now
-    → ((is_clean session.kind && not session.closed) ≡ false → now ≡ before)
-    → OnlyRegisters (MayClean olds) old now
-chosen_own olds items n session old before now at touched stay own more idle = elim
-    (cases_Bool (is_clean session.kind && not session.closed)) [
-      | inl may ↦
-          let is = and_parts (is_clean session.kind) (not session.closed) may in
-          let was = clean_before olds items n session at is.0 (not-true session.closed is.1) touched stay in
-          registers_more (MayClean olds) old before now own (registers_weaker (λ other. other ≡ n)
-          (MayClean olds) before now (λ other own. subst (MayClean olds) (sym own) was) more)
-      | inr none ↦ subst (OnlyRegisters (MayClean olds) old) (sym (idle none)) own
-    ]
 
 -- the blocks that are registered and those that are left stay the same
 pub cut_registered : (task number : ℕ) (session : Session) (before now : List Entry) (cut : Cut) (cuts rest : List Cut) (block : Block)

@@ -18,5 +18,6 @@ pub mod Deliveries
 pub mod AfterDelivery
 pub mod ChoiceSteps
 pub mod AllChoices
+pub mod BegunChoices
 pub mod Calls
 pub mod Written

@@ -94,24 +94,26 @@ module _ (past new : Past) (task : ℕ) (added : List Block)
       (λ block none mine. bare block ∙ rw (ap (λ t. list_any (same_block (own_of t block)) added) (sym mine) ∙ none) refl) (registered past)
       (none_again past task added (rw (sym (seen past task).blocks) before) (rw (sym (seen past task).blocks) after) own)
 
-  pub registered-entries : (session : Session) (held now : List Entry) → session.suspended ≡ (view past task).suspended
-      → held ≡ map (entry_of past) (registered past) → now ≡ held ++ new_entries session added
-      → now ≡ map (entry_of new) (registered past ++ added)
-  registered-entries session held now says entries pushed =
-      let olds = map_same (entry_of past) (entry_of new) (registered past)
+  -- those before stay as they are
+  pub old-entries : map (entry_of past) (registered past) ≡ map (entry_of new) (registered past)
+  old-entries = map_same (entry_of past) (entry_of new) (registered past)
       (all_weaker (λ block. block.task ≡ task → (view new task).bare block ≡ (view past task).bare block)
-      (λ block. entry_of past block ≡ entry_of new block) old_entry (registered past) old_bare) in
-      let news = map_same (λ block. record { block = block; state = wanted_unless session.suspended }) (entry_of new) added
-      (all_with (λ block. (view new task).bare block ≡ Wanted) (λ b. b.task ≡ task)
-      (λ block. ◌≡◌ {A = Entry} (record { block = block; state = wanted_unless session.suspended }) (entry_of new block)) new_entry added
-      (fresh_wanted task added (view past task).bare (view new task).bare bare own) own) in
-      rw (pushed, entries, olds, map-append) (ap (λ es. map (entry_of new) (registered past) ++ es) news) where
+      (λ block. entry_of past block ≡ entry_of new block) old_entry (registered past) old_bare) where
         old_entry : (block : Block) → (block.task ≡ task → (view new task).bare block ≡ (view past task).bare block)
             → entry_of past block ≡ entry_of new block
         old_entry block same =
             one_or_other (λ t. (block.task ≡ t) → entry_in (view past t) block ≡ entry_in (view new t) block) task block.task
             (λ mine. rw (same mine, still) refl) (λ other _. rw (others block.task other) refl) refl
 
+  pub registered-entries : (session : Session) (held now : List Entry) → session.suspended ≡ (view past task).suspended
+      → held ≡ map (entry_of past) (registered past) → now ≡ held ++ new_entries session added
+      → now ≡ map (entry_of new) (registered past ++ added)
+  registered-entries session held now says entries pushed =
+      let news = map_same (λ block. record { block = block; state = wanted_unless session.suspended }) (entry_of new) added
+      (all_with (λ block. (view new task).bare block ≡ Wanted) (λ b. b.task ≡ task)
+      (λ block. ◌≡◌ {A = Entry} (record { block = block; state = wanted_unless session.suspended }) (entry_of new block)) new_entry added
+      (fresh_wanted task added (view past task).bare (view new task).bare bare own) own) in
+      rw (pushed, entries, old-entries, map-append) (ap (λ es. map (entry_of new) (registered past) ++ es) news) where
         new_entry : (block : Block) → (view new task).bare block ≡ Wanted → block.task ≡ task
             → ◌≡◌ {A = Entry} (record { block = block; state = wanted_unless session.suspended }) (entry_of new block)
         new_entry block wanted mine = ap (λ s. record { block = block; state = s }) (rw (says, sym still)

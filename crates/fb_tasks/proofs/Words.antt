@@ -90,7 +90,8 @@ pub use Rattle.fb_model.proofs.Views.{delivered-view, opened-silent, opened-view
 pub use Rattle.fb_model.proofs.Views.{suspended-view, tested-view, wanted-silent, wanted-view, written-silent, written-view}
 pub use Rattle.fb_tasks.specs.Keeping.{HasTaken, IsSealed, are_over, complete_as, complete_by, cuts_of, is_none, is_worked_off}
 pub use Rattle.fb_tasks.specs.Keeping.{new_entries, without_aborted}
-pub use Rattle.fb_tasks.specs.Leaving.{HasBegun, HasGrown, MayClean, OnlyRegisters, OnlyTouched, by_calls, entries_by}
+pub use Rattle.fb_tasks.specs.Leaving.{HasBegun, HasBegunUpTo, HasGrown, OnlyTouched, by_calls, entries_after, entries_by}
+pub use Rattle.fb_tasks.specs.Leaving.{entries_chosen}
 pub use Rattle.fb_tasks.specs.Listing.{AreListed, IsNoted}
 pub use Rattle.fb_tasks.specs.Script.{IsCalled}
 pub use Rattle.fb_tasks.specs.Standing.{AreNumbered, AreReported, AreTestRowsOf, Ascend, Cleans, CleansBy, HasChosen, HasChosenUpTo}

@@ -1,9 +1,9 @@
 // The choice of segments.
-ghost use Rattle.std.specs.Prelude.{◌≡◌, ℕ, List, ◌&&◌, not, true, false, ◌++◌, OnOk, IfOk};
+ghost use Rattle.std.specs.Prelude.{◌≡◌, ℕ, List, ◌&&◌, not, true, false, ◌++◌, OnOk, OnErr, IfOk};
 ghost use Rattle.fb_script.specs.Sessions.{is_clean};
 ghost use Rattle.fb_model.specs.History.{Past};
 ghost use Rattle.fb_model.specs.Segments.{choose_once, choose_in};
-ghost use Rattle.fb_tasks.specs.Leaving.{HasGrown, OnlyRegisters, by_calls};
+ghost use Rattle.fb_tasks.specs.Leaving.{HasBegunUpTo, by_calls};
 ghost use Rattle.fb_tasks.specs.Standing.{MayChoose, HasChosenUpTo};
 
 use crate::session::{Session, Stamp};
@@ -18,6 +18,9 @@ use std::alloc::Global;
 
 impl Session {
     /// Chooses segments until one has live blocks or none is left; one without live blocks is finished at once.
+    ///
+    /// If memory runs out, all rows and blocks that stood before are unchanged, and at most the first of those
+    /// that were due follow.
     pub fn choose(
         &mut self,
         alloc: Global,
@@ -31,9 +34,8 @@ impl Session {
             → HasChosenUpTo map.now past (choose_in map.now past stamp.task) stamp.task stamp.instant self.new wanted.new
             rows.old rows.new) }
         ensures same { (by_calls self.new ≡ by_calls self.old) × (self.new.touched ≡ self.old.touched) }
-        ensures own { OnlyRegisters (λ other. other ≡ stamp.task) wanted.old wanted.new }
-        ensures idle { (is_clean self.old.kind && not self.old.closed) ≡ false → wanted.new ≡ wanted.old }
-        ensures grown { HasGrown rows.old rows.new }
+        ensures begun { OnErr result ((past : Past) → MayChoose map.now past stamp.task self.old wanted.old
+            → HasBegunUpTo past (choose_in map.now past stamp.task) stamp.task stamp.instant wanted.old wanted.new rows.old rows.new) }
     {
         if !self.may_choose() {
             return Ok(());
@@ -71,8 +73,9 @@ impl Session {
             → HasChosenUpTo map.now past (choose_once map.now stamp.task past) stamp.task stamp.instant self.new wanted.new
             rows.old rows.new) }
         ensures same { (by_calls self.new ≡ by_calls self.old) × (self.new.touched ≡ self.old.touched) }
-        ensures own { OnlyRegisters (λ other. other ≡ stamp.task) wanted.old wanted.new }
-        ensures grown { HasGrown rows.old rows.new }
+        ensures begun { OnErr result ((past : Past) → MayChoose map.now past stamp.task self.old wanted.old
+            → HasBegunUpTo past (choose_once map.now stamp.task past) stamp.task stamp.instant wanted.old wanted.new
+            rows.old rows.new) }
         ensures none { IfOk result (λ some. some ≡ false → (past : Past) → MayChoose map.now past stamp.task self.old wanted.old
             → choose_once map.now stamp.task past ≡ past) }
     {

@@ -17,7 +17,7 @@ ghost use Rattle.fb_model.specs.Segments.{with_choices};
 ghost use Rattle.fb_tasks.specs.declared.session.Session.{Session};
 ghost use Rattle.fb_tasks.specs.Taken.{segment_rows_found, test_rows_found, rows_after, delivery_of, ends_of};
 ghost use Rattle.fb_tasks.specs.Standing.{HaveChosen};
-ghost use Rattle.fb_tasks.specs.Leaving.{HasGrown, HasBegun, entries_by, OnlyRegisters, MayClean, OnlyTouched};
+ghost use Rattle.fb_tasks.specs.Leaving.{HasBegun, entries_by, entries_chosen, OnlyTouched};
 ghost use Rattle.fb_tasks.specs.Writing.{left_by_write, left_in};
 ghost use Rattle.fb_tasks.specs.Telling.{Tells, MayTake, MaySettle, MayDeliver, IsUpToDate, IsCall, tested_at};
 
@@ -126,7 +126,7 @@ impl Sessions {
     /// any other; adds the rows that a decision has before its plan.
     ///
     /// If memory runs out, all rows and blocks that stood before are unchanged, and so is each session that
-    /// was not touched; what was registered are blocks of open clean tasks.
+    /// was not touched; at most the first of the blocks and of the rows that were due follow.
     pub fn settle(
         &mut self,
         map: &SectorMap,
@@ -142,8 +142,10 @@ impl Sessions {
         ensures rows { OnOk result ((past : Past) → MaySettle map.now past self.old wanted.old
             → rows.new ≡ rows.old ++ test_rows_found (with_choices map.now past) now) }
         ensures stay_sessions { OnlyTouched self.old self.new }
-        ensures stay_blocks { OnlyRegisters (MayClean self.old) wanted.old wanted.new }
-        ensures stay_rows { HasGrown rows.old rows.new }
+        ensures blocks { (past : Past) → MaySettle map.now past self.old wanted.old
+            → HasBegun wanted.old (entries_chosen map.now past) wanted.new }
+        ensures err_rows { OnErr result ((past : Past) → MaySettle map.now past self.old wanted.old
+            → HasBegun rows.old (test_rows_found (with_choices map.now past) now) rows.new) }
     {
         self.choose_touched(map, wanted, now, rows)?;
         self.test_touched(wanted, now, rows)
@@ -400,8 +402,11 @@ impl Sessions {
             × (rows.new ≡ rows.old
             ++ flat_map (segment_rows_found (with_choices map.now past) now) (task_numbers (with_choices map.now past)))) }
         ensures stay_sessions { OnlyTouched self.old self.new }
-        ensures stay_blocks { OnlyRegisters (MayClean self.old) wanted.old wanted.new }
-        ensures stay_rows { HasGrown rows.old rows.new }
+        ensures blocks { (past : Past) → MaySettle map.now past self.old wanted.old
+            → HasBegun wanted.old (entries_chosen map.now past) wanted.new }
+        ensures err_rows { OnErr result ((past : Past) → MaySettle map.now past self.old wanted.old
+            → HasBegun rows.old
+            (flat_map (segment_rows_found (with_choices map.now past) now) (task_numbers (with_choices map.now past))) rows.new) }
     {
         let mut from = 0;
         while let Some(task) = next_touched(&self.listed_touched, &self.sessions, from) {
@@ -424,7 +429,8 @@ impl Sessions {
             → Tells disk (tested_at past now) self.new wanted.now
             × (rows.new ≡ rows.old ++ flat_map (ends_of past now) (task_numbers past))) }
         ensures stay_sessions { OnlyTouched self.old self.new }
-        ensures stay_rows { HasGrown rows.old rows.new }
+        ensures err_rows { OnErr result ((disk : Shape) (past : Past) → HaveChosen disk past self.old wanted.now
+            → HasBegun rows.old (flat_map (ends_of past now) (task_numbers past)) rows.new) }
     {
         let mut from = 0;
         while let Some(task) = next_touched(&self.listed_touched, &self.sessions, from) {

@@ -7,7 +7,7 @@ ghost use Rattle.fb_clean.specs.Segments.{live_of};
 ghost use Rattle.fb_wanted.specs.Numbering.{registered_count, blocks_of};
 ghost use Rattle.fb_model.specs.Segments.{numbered};
 ghost use Rattle.fb_tasks.specs.Keeping.{new_entries, cuts_of};
-ghost use Rattle.fb_tasks.specs.Leaving.{HasBegun, OnlyRegisters};
+ghost use Rattle.fb_tasks.specs.Leaving.{HasBegun};
 
 use crate::session::Session;
 use fb_sectormap::{Cut, SectorMap};
@@ -74,7 +74,7 @@ fn block_of(session: &Session, task: u32, number: u32, cut: Cut) -> Block
     }
 }
 
-/// Registers the blocks of a segment's live blocks.
+/// Registers the blocks of a segment's live blocks. If memory runs out, at most the first of them are registered.
 pub fn want_live(
     map: &SectorMap,
     wanted: &mut Wanted,
@@ -89,7 +89,8 @@ pub fn want_live(
     requires few { length wanted.old + length (cuts_of map.now session.now.block (live_of session.now.log segment)) ≤ 16000000 }
     ensures all { OnOk result (wanted.new ≡ wanted.old ++ new_entries session.now (numbered task session.now.weight
         (registered_count task (blocks_of wanted.old)) (cuts_of map.now session.now.block (live_of session.now.log segment)))) }
-    ensures own { OnlyRegisters (λ other. other ≡ task) wanted.old wanted.new }
+    ensures begun { HasBegun wanted.old (new_entries session.now (numbered task session.now.weight
+        (registered_count task (blocks_of wanted.old)) (cuts_of map.now session.now.block (live_of session.now.log segment)))) wanted.new }
 {
     for i in 0..session.log.live_count(segment) {
         let lbn = session.log.live_block(segment, i);

@@ -1,7 +1,8 @@
 use Rattle.fb_units.proofs.Lists.{drop_at}
-use Rattle.fb_tasks.proofs.Words.{◌≡◌, ℕ, ◌+◌, List, length, drop, refl, ap, ◌∙◌, length-append, arith, cutting, live_of, cuts_of, Shape}
-use Rattle.fb_tasks.proofs.Words.{Entry, numbered, Session, new_entries, HasBegun, OnlyRegisters}
-use Rattle.fb_tasks.proofs.{Leaving.registers_none, Leaving.registers_more, Leaving.begun_own, Cuts.live-more}
+use Rattle.fb_tasks.proofs.Words.{◌+◌, ◌++◌, length, drop, refl, ap, ◌∙◌, length-append, arith, cutting, live_of, cuts_of, blocks_of}
+use Rattle.fb_tasks.proofs.Words.{numbered, new_entries}
+use Rattle.fb_tasks.proofs.{Leaving.grown_not, Leaving.grown_more, Leaving.begun_by, Leaving.begun_next, Cuts.live-more}
+use Rattle.fb_wanted.specs.Numbering.{registered_count}
 use Rattle.fb_tasks.proofs.wanting.want_live.Goals as goal
 
 pub want_range-requires-clause-few : goal.want_range-requires-clause-few
@@ -16,23 +17,8 @@ want_range-requires-clause-few c =
       length-append cs (cuts_of c.args.map.now block (drop (c.loop-i.i + 1) lbns)),
     )
 
--- the blocks of one more live block are registered, or the first of them
-one-more : (task n block lbn : ℕ) (disk : Shape) (session : Session) (old before now : List Entry)
-    → OnlyRegisters (λ other. other ≡ task) old before
-    → HasBegun before (new_entries session (numbered task session.weight n (cutting disk session.block lbn block))) now
-    → OnlyRegisters (λ other. other ≡ task) old now
-one-more task n block lbn disk session old before now own begun =
-    registers_more (λ other. other ≡ task) old before now own
-    (begun_own task n session (cutting disk session.block lbn block) before now begun)
-
 pub loop-i-init : goal.loop-i-init
-loop-i-init c = record { all = refl; few = c.requires.few; own = registers_none (λ other. other ≡ c.args.task) c.args.wanted.now }
-
-pub returns-in_err-want_range-clause-own : goal.returns-in_err-want_range-clause-own
-returns-in_err-want_range-clause-own c =
-    let session = c.args.session.now in
-    one-more c.args.task _ session.block c.live_block-lbn.result c.args.map.now session c.args.wanted.now c.loop-i.wanted
-    c.want_range.new.wanted c.loop-i.invariant.own c.want_range.ensures.begun
+loop-i-init c = record { all = refl; few = c.requires.few; grown = grown_not c.args.wanted.now }
 
 pub loop-i-preserved : goal.loop-i-preserved
 loop-i-preserved c =
@@ -42,6 +28,18 @@ loop-i-preserved c =
     record {
       all = more.0 ∙ c.loop-i.invariant.all;
       few = omega (arith, more.1, c.loop-i.invariant.few);
-      own = one-more c.args.task _ session.block c.live_block-lbn.result c.args.map.now session c.args.wanted.now c.loop-i.wanted
-          c.want_range.new.wanted c.loop-i.invariant.own c.want_range.ensures.begun;
+      grown = grown_more _ _ _ c.loop-i.invariant.grown (record { added = _; is = c.in_ok-want_range.ensures.all });
     }
+
+pub returns-clause-begun : goal.returns-clause-begun
+returns-clause-begun c = begun_by _ c.loop-i.invariant.grown c.loop-i.invariant.all
+
+pub returns-in_err-want_range-clause-begun : goal.returns-in_err-want_range-clause-begun
+returns-in_err-want_range-clause-begun c =
+    let session = c.args.session.now in
+    let held = c.loop-i.wanted in
+    let due = new_entries session (numbered c.args.task session.weight (registered_count c.args.task (blocks_of held))
+    (cutting c.args.map.now session.block c.live_block-lbn.result session.block)) in
+    let more = live-more c.args.map.now c.args.task session.block session.weight session held (held ++ due)
+    (live_of session.log c.args.segment) c.loop-i.i c.live_block-lbn.result c.live_block-lbn.ensures refl in
+    begun_next _ c.loop-i.invariant.grown c.want_range.ensures.begun (more.0 ∙ c.loop-i.invariant.all)

@@ -1,4 +1,4 @@
-use Rattle.fb_tasks.proofs.Words.{◌≡◌, ◌+◌, ◌≤◌, ◌++◌, length, drop, live_of, blocks_of, numbered, new_entries, cuts_of, OnlyRegisters}
+use Rattle.fb_tasks.proofs.Words.{◌≡◌, ◌+◌, ◌≤◌, ◌++◌, length, drop, live_of, blocks_of, numbered, new_entries, cuts_of, HasGrown}
 use Rattle.fb_wanted.specs.Numbering.{registered_count}
 use Rattle.fb_tasks.proofs.wanting.want_live.Given as goal
 
@@ -10,5 +10,5 @@ invariant-loop-i l = record {
       ≡ l.initial.wanted ++ new_entries l.session (numbered l.task l.session.weight (registered_count l.task (blocks_of l.initial.wanted))
       (cuts_of l.map l.session.block (live_of l.session.log l.segment)));
   few : length l.wanted + length (cuts_of l.map l.session.block (drop l.i (live_of l.session.log l.segment))) ≤ 16000000;
-  own : OnlyRegisters (λ other. other ≡ l.task) l.initial.wanted l.wanted;
+  grown : HasGrown l.initial.wanted l.wanted;
 }

@@ -1,16 +1,11 @@
-use Rattle.fb_tasks.proofs.Words.{◌≡◌, Bool, true, false, not, refl, ap, sym, ◌∙◌, arith, and_parts, not-true, true≢false}
-use Rattle.fb_tasks.proofs.Words.{is_clean, choose_up_to}
-use Rattle.fb_tasks.proofs.Leaving.{grown_not, grown_more, registers_none, registers_more}
+use Rattle.fb_tasks.proofs.Words.{◌≡◌, not, refl, ap, sym, ◌∙◌, arith, and_parts, not-true, is_clean, choose_up_to, on_err}
 use Rattle.fb_tasks.proofs.AllChoices.{up_to_split, still-chosen, idle-chosen, chosen-on, choices_in}
+use Rattle.fb_tasks.proofs.BegunChoices.{begun-at}
 use Rattle.fb_tasks.proofs.session.Session.choose.Goals as goal
 
 -- what has stayed the same so far stays so by the next choice
 same_on : {X Y : Type 0} {a b c : X} {d e f : Y} → (b ≡ a) × (e ≡ d) → (c ≡ b) × (f ≡ e) → (c ≡ a) × (f ≡ d)
 same_on before one = (one.0 ∙ before.0, one.1 ∙ before.1)
-
--- a session that may choose is not idle
-not_idle : {P : Type 0} {is may : Bool} → is ≡ may → is ≡ true → may ≡ false → P
-not_idle same chooses idle = absurd (true≢false (sym (sym same ∙ chooses) ∙ idle))
 
 pub returns-then-not-may_choose-clause-chosen : goal.returns-then-not-may_choose-clause-chosen
 returns-then-not-may_choose-clause-chosen c = λ past may. idle-chosen (sym c.may_choose.ensures ∙ c.if-not-may_choose.true) may
@@ -28,8 +23,6 @@ loop-choice-init c =
     record {
       cleans = (may_be.0, not-true c.args.self.now.closed may_be.1);
       same = (refl, refl);
-      own = registers_none (λ other. other ≡ c.args.stamp.task) c.args.wanted.now;
-      grown = grown_not c.args.rows.now;
       chosen = λ past may. still-chosen refl may;
     }
 
@@ -40,8 +33,6 @@ loop-choice-preserved c =
     record {
       cleans = (ap (λ t. is_clean t.0) one.same.0 ∙ inv.cleans.0, ap (λ t. t.4) one.same.0 ∙ inv.cleans.1);
       same = same_on inv.same one.same;
-      own = registers_more _ _ _ _ inv.own one.own;
-      grown = grown_more _ _ _ inv.grown one.grown;
       chosen = λ past may. rw (up_to_split c.loop-choice._choice 1 c.args.map.now c.args.stamp.task past)
           (chosen-on (inv.chosen past may) (c.in_ok-choose_one.ensures.chosen _ (inv.chosen past may).may));
     }
@@ -61,9 +52,7 @@ returns-then-not-branch c =
             sym still,
           ) (chosen-on here (c.in_ok-choose_one.ensures.chosen _ here.may));
       same = same_on inv.same one.same;
-      own = registers_more _ _ _ _ inv.own one.own;
-      idle = not_idle c.may_choose.ensures c.if-not-may_choose.false;
-      grown = grown_more _ _ _ inv.grown one.grown;
+      begun = tt;
     }
 
 pub returns-clause-chosen : goal.returns-clause-chosen
@@ -76,20 +65,8 @@ returns-clause-chosen c = λ past may.
 pub returns-in_err-choose_one-clause-same : goal.returns-in_err-choose_one-clause-same
 returns-in_err-choose_one-clause-same c = same_on c.loop-choice.invariant.same c.choose_one.ensures.same
 
-pub returns-in_err-choose_one-clause-own : goal.returns-in_err-choose_one-clause-own
-returns-in_err-choose_one-clause-own c = registers_more _ _ _ _ c.loop-choice.invariant.own c.choose_one.ensures.own
-
-pub returns-in_err-choose_one-clause-idle : goal.returns-in_err-choose_one-clause-idle
-returns-in_err-choose_one-clause-idle c = not_idle c.may_choose.ensures c.if-not-may_choose.false
-
-pub returns-in_err-choose_one-clause-grown : goal.returns-in_err-choose_one-clause-grown
-returns-in_err-choose_one-clause-grown c = grown_more _ _ _ c.loop-choice.invariant.grown c.choose_one.ensures.grown
-
-pub returns-clause-idle : goal.returns-clause-idle
-returns-clause-idle c = not_idle c.may_choose.ensures c.if-not-may_choose.false
-
-pub returns-then-not-may_choose-clause-own : goal.returns-then-not-may_choose-clause-own
-returns-then-not-may_choose-clause-own c = registers_none (λ other. other ≡ c.args.stamp.task) c.args.wanted.now
-
-pub returns-then-not-may_choose-clause-grown : goal.returns-then-not-may_choose-clause-grown
-returns-then-not-may_choose-clause-grown c = grown_not c.args.rows.now
+pub returns-in_err-choose_one-clause-begun : goal.returns-in_err-choose_one-clause-begun
+returns-in_err-choose_one-clause-begun c = on_err c.from_residual.result (λ past may.
+    let chosen = c.loop-choice.invariant.chosen past may in
+    begun-at may c.loop-choice._choice c.len-choice-end.result (sym c.may_choose.ensures ∙ c.if-not-may_choose.false)
+    c.len-choice-end.ensures (omega arith) chosen (c.in_err-choose_one.ensures.begun _ chosen.may))

@@ -1,6 +1,5 @@
-use Rattle.fb_tasks.proofs.Words.{◌≡◌, ap, sym, ◌∙◌, subst, arith, true≢false, Session, HasGrown, by_calls}
-use Rattle.fb_tasks.proofs.Leaving.{grown_not, registers_none}
-use Rattle.fb_tasks.proofs.ChoiceSteps.{choice-step, none-step, none-chosen, live-on_disk, live-few, live-chosen, empty-chosen}
+use Rattle.fb_tasks.proofs.Words.{ap, sym, ◌∙◌, refl, arith, true≢false, Session, by_calls, on_err}
+use Rattle.fb_tasks.proofs.ChoiceSteps.{choice-step, none-step, none-chosen, live-on_disk, live-few, live-chosen, empty-chosen, begun-one}
 use Rattle.fb_tasks.proofs.session.Session.choose_one.Goals as goal
 
 pub want_live-requires-clause-on_disk : goal.want_live-requires-clause-on_disk
@@ -39,9 +38,6 @@ returns-in-None-clause-chosen c = λ past may.
 pub returns-in-None-clause-none : goal.returns-in-None-clause-none
 returns-in-None-clause-none c = λ _ past may. none-step c.requires.cleans may (sym c.in-None.ensures.choice)
 
-pub returns-in-None-clause-own : goal.returns-in-None-clause-own
-returns-in-None-clause-own c = registers_none (λ other. other ≡ c.args.stamp.task) c.args.wanted.now
-
 pub returns-in_ok-finish-in-Some-clause-none : goal.returns-in_ok-finish-in-Some-clause-none
 returns-in_ok-finish-in-Some-clause-none c = λ never. absurd (true≢false never)
 
@@ -70,13 +66,18 @@ pub returns-in_ok-finish-in-Some-clause-same : goal.returns-in_ok-finish-in-Some
 returns-in_ok-finish-in-Some-clause-same c =
     (ap by_calls c.in_ok-finish-in-Some.ensures.session, ap (λ (s : Session). s.touched) c.in_ok-finish-in-Some.ensures.session)
 
-pub returns-in_ok-finish-in-Some-clause-grown : goal.returns-in_ok-finish-in-Some-clause-grown
-returns-in_ok-finish-in-Some-clause-grown c = record { added = _; is = c.in_ok-finish-in-Some.ensures.row }
-
 pub returns-in_err-finish-in-Some-clause-same : goal.returns-in_err-finish-in-Some-clause-same
 returns-in_err-finish-in-Some-clause-same c =
     (ap by_calls c.in_err-finish-in-Some.ensures.session, ap (λ (s : Session). s.touched) c.in_err-finish-in-Some.ensures.session)
 
-pub returns-in_err-finish-in-Some-clause-grown : goal.returns-in_err-finish-in-Some-clause-grown
-returns-in_err-finish-in-Some-clause-grown c =
-    subst (HasGrown c.args.rows.now) (sym c.in_err-finish-in-Some.ensures.err) (grown_not c.args.rows.now)
+pub returns-in_err-want_live-in-Some-clause-begun : goal.returns-in_err-want_live-in-Some-clause-begun
+returns-in_err-want_live-in-Some-clause-begun c = on_err c.from_residual.result (λ past may.
+    begun-one c.requires.cleans may c.in-Some.segment (choice-step c.requires.cleans may c.in-Some.segment (sym c.in-Some.ensures.choice))
+    c.choose.new.self c.in-Some.ensures.state (omega (arith, c.count-sectors.ensures.value, c.count-sectors.ensures.bound))
+    _ refl c.args.stamp.instant c.args.rows.now c.want_live.ensures.begun refl)
+
+pub returns-in_err-finish-in-Some-clause-begun : goal.returns-in_err-finish-in-Some-clause-begun
+returns-in_err-finish-in-Some-clause-begun c = on_err c.from_residual-in_err-finish-in-Some.result (λ past may.
+    begun-one c.requires.cleans may c.in-Some.segment (choice-step c.requires.cleans may c.in-Some.segment (sym c.in-Some.ensures.choice))
+    c.choose.new.self c.in-Some.ensures.state (omega (arith, c.count-sectors.ensures.value, c.count-sectors.ensures.bound))
+    _ refl c.args.stamp.instant c.args.rows.now c.want_live.ensures.begun c.in_err-finish-in-Some.ensures.err)

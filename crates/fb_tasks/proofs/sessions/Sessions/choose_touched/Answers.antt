@@ -1,5 +1,6 @@
-use Rattle.fb_tasks.proofs.Words.{◌<◌, length, sym, subst, arith, length-set, MaySettle, OnlyTouched, MayClean}
-use Rattle.fb_tasks.proofs.Leaving.{grown_not, grown_more, registers_none, touched_none, touched_set, chosen_own}
+use Rattle.fb_tasks.proofs.Words.{◌<◌, length, sym, subst, arith, length-set, MaySettle, OnlyTouched, on_err}
+use Rattle.fb_tasks.proofs.Leaving.{touched_none, touched_set}
+use Rattle.fb_tasks.proofs.BegunChoices.{all-begun, blocks-at, rows-at}
 use Rattle.fb_tasks.proofs.Listed.{listed_set, listed_there, listed_within}
 use Rattle.fb_tasks.proofs.AllChoices.{partly-start, partly-may, partly-more, partly-to, all-chosen, past_at}
 use Rattle.fb_tasks.proofs.sessions.Sessions.choose_touched.Goals as goal
@@ -11,8 +12,6 @@ loop-task-init c = record {
   partly = λ past h. partly-start c.args.map.now past c.self.inside.sessions.items c.args.wanted.now c.args.now c.args.rows.now
       (subst (λ xs. MaySettle c.args.map.now past xs c.args.wanted.now) (sym c.self.view_is) h);
   stay = subst (OnlyTouched c.args.self.now) (sym c.self.view_is) (touched_none c.args.self.now);
-  own = registers_none (MayClean c.args.self.now) c.args.wanted.now;
-  grown = grown_not c.args.rows.now;
 }
 
 pub next_touched-requires : goal.next_touched-requires
@@ -45,9 +44,6 @@ loop-task-preserved c =
           (rw c.deref.ensures.value at c.in-Some.ensures.first) (inv.partly past h) in
           partly-more there c.choose.ensures.same.1 to (c.in_ok-choose.ensures.chosen _ (partly-may there to));
       stay = touched_set c.args.self.now items n session c.choose.new.self there touched c.choose.ensures.same.0 inv.stay;
-      own = chosen_own c.args.self.now items n session c.args.wanted.now c.loop-task.wanted c.choose.new.wanted there touched inv.stay
-          inv.own c.choose.ensures.own c.choose.ensures.idle;
-      grown = grown_more c.args.rows.now c.loop-task.rows c.choose.new.rows inv.grown c.choose.ensures.grown;
     }
 
 pub returns-clause-chosen : goal.returns-clause-chosen
@@ -56,14 +52,26 @@ returns-clause-chosen c = λ past h.
     all-chosen (partly-to c.loop-task.from (length c.loop-task.self-inside.sessions.items) inv.within (omega arith)
     (λ k s low high. (rw c.deref.ensures.value at c.in_default.ensures.none) k s low) (inv.partly past h))
 
-pub returns-in_err-choose-clause-stay_blocks : goal.returns-in_err-choose-clause-stay_blocks
-returns-in_err-choose-clause-stay_blocks c =
+pub returns-clause-blocks : goal.returns-clause-blocks
+returns-clause-blocks c = λ past h. all-begun h (returns-clause-chosen c past h).0.blocks
+
+pub returns-in_err-choose-clause-blocks : goal.returns-in_err-choose-clause-blocks
+returns-in_err-choose-clause-blocks c = λ past h.
     let inv = c.loop-task.invariant in
-    let there = listed_there inv.kept c.in-Some.task c.index_mut.result.now c.in-Some.ensures.found c.index_mut.ensures.value in
-    chosen_own c.args.self.now c.loop-task.self-inside.sessions.items c.in-Some.task c.index_mut.result.now c.args.wanted.now
-    c.loop-task.wanted c.choose.new.wanted there
-    ((rw c.deref.ensures.value at c.in-Some.ensures.touched) c.index_mut.result.now there) inv.stay inv.own c.choose.ensures.own
-    c.choose.ensures.idle
+    let n = c.in-Some.task in
+    let there = listed_there inv.kept n c.index_mut.result.now c.in-Some.ensures.found c.index_mut.ensures.value in
+    let to = partly-to c.loop-task.from n c.in-Some.ensures.from (omega (arith, listed_within inv.kept n c.in-Some.ensures.found))
+    (rw c.deref.ensures.value at c.in-Some.ensures.first) (inv.partly past h) in
+    blocks-at h there to (c.in_err-choose.ensures.begun _ (partly-may there to))
+
+pub returns-in_err-choose-clause-err_rows : goal.returns-in_err-choose-clause-err_rows
+returns-in_err-choose-clause-err_rows c = on_err c.from_residual.result (λ past h.
+    let inv = c.loop-task.invariant in
+    let n = c.in-Some.task in
+    let there = listed_there inv.kept n c.index_mut.result.now c.in-Some.ensures.found c.index_mut.ensures.value in
+    let to = partly-to c.loop-task.from n c.in-Some.ensures.from (omega (arith, listed_within inv.kept n c.in-Some.ensures.found))
+    (rw c.deref.ensures.value at c.in-Some.ensures.first) (inv.partly past h) in
+    rows-at h there to (c.in_err-choose.ensures.begun _ (partly-may there to)))
 
 pub returns-in_err-choose-clause-stay_sessions : goal.returns-in_err-choose-clause-stay_sessions
 returns-in_err-choose-clause-stay_sessions c =
@@ -88,10 +96,6 @@ loop-task-smaller c = omega (
   c.in-Some.ensures.from,
   length-set c.loop-task.self-inside.sessions.items c.in-Some.task c.choose.new.self,
 )
-
-pub returns-in_err-choose-clause-stay_rows : goal.returns-in_err-choose-clause-stay_rows
-returns-in_err-choose-clause-stay_rows c = grown_more c.args.rows.now c.loop-task.rows c.choose.new.rows c.loop-task.invariant.grown
-    c.choose.ensures.grown
 
 pub invariant_of-self : goal.invariant_of-self
 invariant_of-self c = listed_set c.loop-task.invariant.kept c.in-Some.task c.choose.new.self c.in-Some.ensures.found

@@ -1,4 +1,4 @@
-use Rattle.fb_tasks.proofs.Words.{◌≤◌, ◌-◌, length, Past, MaySettle, AreListed, HasGrown, OnlyRegisters, MayClean, OnlyTouched}
+use Rattle.fb_tasks.proofs.Words.{◌≤◌, ◌-◌, length, Past, MaySettle, AreListed, OnlyTouched}
 use Rattle.fb_tasks.proofs.AllChoices.{Partly}
 use Rattle.fb_tasks.proofs.sessions.Sessions.choose_touched.Given as goal
 
@@ -10,8 +10,6 @@ invariant-loop-task l = record {
   partly : (past : Past) → MaySettle l.map past l.fn.self l.initial.wanted
       → Partly l.map past l.self-inside.sessions.items l.wanted l.now l.initial.rows l.rows l.from;
   stay : OnlyTouched l.fn.self l.self-inside.sessions.items;
-  own : OnlyRegisters (MayClean l.fn.self) l.initial.wanted l.wanted;
-  grown : HasGrown l.initial.rows l.rows;
 }
 
 abbrev pub decreases-loop-task : goal.decreases-loop-task

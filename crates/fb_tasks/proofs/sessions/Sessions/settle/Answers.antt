@@ -1,8 +1,8 @@
 use Rattle.fb_tasks.proofs.Words.{◌++◌, [], ap, ◌∙◌, append_assoc, on_ok_weaker, flat_map, task_numbers, test_rows_found}
 use Rattle.fb_tasks.proofs.Words.{segment_rows_found, ends_of}
-use Rattle.fb_tasks.proofs.Words.{with_choices}
+use Rattle.fb_tasks.proofs.Words.{with_choices, on_err, on_err_weaker}
 use Rattle.fb_tasks.proofs.{RowsOf.rows-given, RowsOf.nothing-mute, Tested.up_to_date-tested}
-use Rattle.fb_tasks.proofs.Leaving.{grown_more, touched_more}
+use Rattle.fb_tasks.proofs.Leaving.{begun_after, begun_longer, touched_more}
 use Rattle.fb_tasks.proofs.sessions.Sessions.settle.Goals as goal
 
 pub test_touched-requires : goal.test_touched-requires
@@ -35,6 +35,16 @@ pub returns-clause-stay_sessions : goal.returns-clause-stay_sessions
 returns-clause-stay_sessions c = touched_more c.args.self.now c.choose_touched.new.self c.test_touched.new.self
     c.choose_touched.ensures.stay_sessions c.test_touched.ensures.stay_sessions
 
-pub returns-clause-stay_rows : goal.returns-clause-stay_rows
-returns-clause-stay_rows c = grown_more c.args.rows.now c.choose_touched.new.rows c.test_touched.new.rows c.choose_touched.ensures.stay_rows
-    c.test_touched.ensures.stay_rows
+pub returns-clause-err_rows : goal.returns-clause-err_rows
+unfolding test_rows_found
+returns-clause-err_rows c = on_err_weaker c.test_touched.result (λ begins past may.
+    let new = with_choices c.args.map.now past in
+    let chosen = c.in_ok-choose_touched.ensures.chosen past may in
+    begun_after (flat_map (segment_rows_found new c.args.now) (task_numbers new)) chosen.1 (begins c.args.map.now new chosen.0))
+    c.test_touched.ensures.err_rows
+
+pub returns-in_err-choose_touched-clause-err_rows : goal.returns-in_err-choose_touched-clause-err_rows
+unfolding test_rows_found
+returns-in_err-choose_touched-clause-err_rows c = on_err c.from_residual.result (λ past may.
+    let new = with_choices c.args.map.now past in
+    begun_longer (flat_map (ends_of new c.args.now) (task_numbers new)) (c.in_err-choose_touched.ensures.err_rows past may))

@@ -1,6 +1,6 @@
 use Rattle.fb_tasks.proofs.Words.{◌<◌, false, length, ap, sym, ◌∙◌, subst, arith, refl, contains, nat_cmp, length-set, HaveChosen}
-use Rattle.fb_tasks.proofs.Words.{OnlyTouched}
-use Rattle.fb_tasks.proofs.Leaving.{grown_not, grown_more, touched_none, touched_set}
+use Rattle.fb_tasks.proofs.Words.{OnlyTouched, ends_of, tasks, on_err}
+use Rattle.fb_tasks.proofs.Leaving.{begun_each, touched_none, touched_set}
 use Rattle.fb_tasks.proofs.Listed.{listed_less, listed_set, listed_there, listed_within}
 use Rattle.fb_tasks.proofs.Tested.{none_tested, chosen_at, one_tested, tested-to, all-tested}
 use Rattle.fb_tasks.proofs.sessions.Sessions.test_touched.Goals as goal
@@ -11,7 +11,6 @@ loop-task-init c = record {
   within = omega arith;
   tested = λ disk past chosen. none_tested;
   stay = subst (OnlyTouched c.args.self.now) (sym c.self.view_is) (touched_none c.args.self.now);
-  grown = grown_not c.args.rows.now;
 }
 
 pub next_touched-requires : goal.next_touched-requires
@@ -50,7 +49,6 @@ loop-task-preserved c =
           (rw c.deref.ensures.value at c.in-Some.ensures.first) chosen (inv.tested disk past chosen) in
           one_tested to (c.in_ok-test.ensures.tested disk past (chosen_at chosen n session (sym (to.later n (omega arith)) ∙ there)));
       stay = touched_set c.args.self.now items n session cleared there touched c.test.ensures.same.0 inv.stay;
-      grown = grown_more c.args.rows.now c.loop-task.rows c.test.new.rows inv.grown c.test.ensures.grown;
     }
 
 pub returns-clause-tested : goal.returns-clause-tested
@@ -87,9 +85,18 @@ loop-task-smaller c = omega (
   length-set c.loop-task.self-inside.sessions.items c.in-Some.task (record c.test.new.self { touched = false }),
 )
 
-pub returns-in_err-test-clause-stay_rows : goal.returns-in_err-test-clause-stay_rows
-returns-in_err-test-clause-stay_rows c = grown_more c.args.rows.now c.loop-task.rows c.test.new.rows c.loop-task.invariant.grown
-    c.test.ensures.grown
+pub returns-in_err-test-clause-err_rows : goal.returns-in_err-test-clause-err_rows
+returns-in_err-test-clause-err_rows c = on_err c.from_residual.result (λ disk past now_chosen.
+    let inv = c.loop-task.invariant in
+    let n = c.in-Some.task in
+    let chosen : HaveChosen disk past c.self.inside.sessions.items c.args.wanted.now = rw c.self.view_is now_chosen in
+    let there = listed_there inv.kept n c.index_mut-session.result.now c.in-Some.ensures.found c.index_mut-session.ensures.value in
+    let within = listed_within inv.kept n c.in-Some.ensures.found in
+    let to = tested-to c.loop-task.from n c.in-Some.ensures.from (omega (arith, within))
+    (rw c.deref.ensures.value at c.in-Some.ensures.first) chosen (inv.tested disk past chosen) in
+    begun_each (ends_of past c.args.now) n (length (tasks past)) (omega (arith, within, to.as_many, chosen.as_many)) to.rows_are
+    (c.in_err-test.ensures.err_rows disk past
+    (chosen_at chosen n c.index_mut-session.result.now (sym (to.later n (omega arith)) ∙ there))))
 
 pub invariant_of-self : goal.invariant_of-self
 invariant_of-self c = listed_set c.loop-task.invariant.kept c.in-Some.task c.test.new.self c.in-Some.ensures.found

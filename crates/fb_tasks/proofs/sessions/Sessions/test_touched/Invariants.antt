@@ -1,4 +1,4 @@
-use Rattle.fb_tasks.proofs.Words.{◌≤◌, ◌-◌, length, Shape, Past, HaveChosen, AreListed, HasGrown, OnlyTouched}
+use Rattle.fb_tasks.proofs.Words.{◌≤◌, ◌-◌, length, Shape, Past, HaveChosen, AreListed, OnlyTouched}
 use Rattle.fb_tasks.proofs.Tested.{AreTested}
 use Rattle.fb_tasks.proofs.sessions.Sessions.test_touched.Given as goal
 
@@ -8,7 +8,6 @@ invariant-loop-task l = record {
   kept : AreListed l.self-inside.sessions.items l.self-inside.listed_touched l.self-inside.checked_by_writes;
   within : l.from ≤ length l.self-inside.sessions.items;
   stay : OnlyTouched l.fn.self l.self-inside.sessions.items;
-  grown : HasGrown l.initial.rows l.rows;
   tested : (disk : Shape) (past : Past) → HaveChosen disk past l.initial.self-inside.sessions.items l.wanted
       → AreTested past l.initial.self-inside.sessions.items l.self-inside.sessions.items l.now l.initial.rows l.rows l.from;
 }
