@@ -31,6 +31,7 @@ impl Session {
             → HasChosenUpTo map.now past (choose_in map.now past stamp.task) stamp.task stamp.instant self.new wanted.new
             rows.old rows.new) }
         ensures same { (by_calls self.new ≡ by_calls self.old) × (self.new.touched ≡ self.old.touched) }
+        ensures chunks { self.new.chunks ≡ self.old.chunks }
         ensures own { OnlyRegisters (λ other. other ≡ stamp.task) wanted.old wanted.new }
         ensures idle { (is_clean self.old.kind && not self.old.closed) ≡ false → wanted.new ≡ wanted.old }
         ensures grown { HasGrown rows.old rows.new }
@@ -71,6 +72,7 @@ impl Session {
             → HasChosenUpTo map.now past (choose_once map.now stamp.task past) stamp.task stamp.instant self.new wanted.new
             rows.old rows.new) }
         ensures same { (by_calls self.new ≡ by_calls self.old) × (self.new.touched ≡ self.old.touched) }
+        ensures chunks { self.new.chunks ≡ self.old.chunks }
         ensures own { OnlyRegisters (λ other. other ≡ stamp.task) wanted.old wanted.new }
         ensures grown { HasGrown rows.old rows.new }
         ensures none { IfOk result (λ some. some ≡ false → (past : Past) → MayChoose map.now past stamp.task self.old wanted.old

@@ -28,6 +28,7 @@ loop-choice-init c =
     record {
       cleans = (may_be.0, not-true c.args.self.now.closed may_be.1);
       same = (refl, refl);
+      chunks = refl;
       own = registers_none (λ other. other ≡ c.args.stamp.task) c.args.wanted.now;
       grown = grown_not c.args.rows.now;
       chosen = λ past may. still-chosen refl may;
@@ -40,6 +41,7 @@ loop-choice-preserved c =
     record {
       cleans = (ap (λ t. is_clean t.0) one.same.0 ∙ inv.cleans.0, ap (λ t. t.4) one.same.0 ∙ inv.cleans.1);
       same = same_on inv.same one.same;
+      chunks = one.chunks ∙ inv.chunks;
       own = registers_more _ _ _ _ inv.own one.own;
       grown = grown_more _ _ _ inv.grown one.grown;
       chosen = λ past may. rw (up_to_split c.loop-choice._choice 1 c.args.map.now c.args.stamp.task past)
@@ -61,6 +63,7 @@ returns-then-not-branch c =
             sym still,
           ) (chosen-on here (c.in_ok-choose_one.ensures.chosen _ here.may));
       same = same_on inv.same one.same;
+      chunks = one.chunks ∙ inv.chunks;
       own = registers_more _ _ _ _ inv.own one.own;
       idle = not_idle c.may_choose.ensures c.if-not-may_choose.false;
       grown = grown_more _ _ _ inv.grown one.grown;
@@ -93,3 +96,6 @@ returns-then-not-may_choose-clause-own c = registers_none (λ other. other ≡ c
 
 pub returns-then-not-may_choose-clause-grown : goal.returns-then-not-may_choose-clause-grown
 returns-then-not-may_choose-clause-grown c = grown_not c.args.rows.now
+
+pub returns-in_err-choose_one-clause-chunks : goal.returns-in_err-choose_one-clause-chunks
+returns-in_err-choose_one-clause-chunks c = c.choose_one.ensures.chunks ∙ c.loop-choice.invariant.chunks

@@ -7,6 +7,7 @@ abbrev pub invariant-loop-choice : goal.invariant-loop-choice
 invariant-loop-choice l = record {
   cleans : (is_clean l.self.kind ≡ true) × (l.self.closed ≡ false);
   same : (by_calls l.self ≡ by_calls l.initial.self) × (l.self.touched ≡ l.initial.self.touched);
+  chunks : l.self.chunks ≡ l.initial.self.chunks;
   own : OnlyRegisters (λ other. other ≡ l.stamp.task) l.initial.wanted l.wanted;
   grown : HasGrown l.initial.rows l.rows;
   chosen : (past : Past) → MayChoose l.map past l.stamp.task l.initial.self l.initial.wanted
