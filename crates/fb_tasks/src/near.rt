@@ -68,6 +68,7 @@ pub fn note_near(near: &mut BTreeSet<(u64, u32)>, task: u32, chunks: Chunks) -> 
 pub fn forget_near(near: &mut BTreeSet<(u64, u32)>, task: u32, chunks: Chunks)
     ensures others { (k : ℕ × ℕ) → contains pair_cmp near.old k ≡ true
         → ((k.1 ≡ task) × IsAmong chunks k.0) ⊎ (contains pair_cmp near.new k ≡ true) }
+    ensures gone { (chunk : ℕ) → IsAmong chunks chunk → contains pair_cmp near.new (chunk, task) ≡ false }
 {
     for chunk in chunks.first..chunks.end {
         near.remove(&(chunk, task));

@@ -115,6 +115,7 @@ impl Session {
     /// Takes the chunks from a session that is no open backup any more.
     pub fn take_sealed_chunks(&mut self) -> Chunks
         ensures session { self.new ≡ record self.old { chunks = self.new.chunks } }
+        ensures taken { (is_backup self.old.kind && not self.old.sealed) ≡ false → result ≡ self.old.chunks }
         ensures stays { (is_backup self.old.kind && not self.old.sealed) ≡ true → self.new.chunks ≡ self.old.chunks }
         ensures others { (chunk : ℕ) → IsAmong self.new.chunks chunk → IsAmong self.old.chunks chunk × (IsAmong result chunk → ⊥) }
     {
