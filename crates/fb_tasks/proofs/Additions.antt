@@ -9,7 +9,7 @@ use Rattle.fb_tasks.proofs.Words.{is_unsealed, state_in, Choice, added_view, is_
 use Rattle.fb_tasks.proofs.Words.{numbered, opened-silent, opened-view, called-silent, added-view, wanted-silent, wanted-view, Session}
 use Rattle.fb_tasks.proofs.Words.{Told, Cleans, IsUntouched, IsPlaced, IsBlockOf, IsAtNumber, HoldsBlock, HoldsChoice, choice_in}
 use Rattle.fb_tasks.proofs.Words.{kept_segment, IsSegmentOf, HoldsImage, IsQuiet, entry_of, Stands, AreNumbered, Ascend, AreReported}
-use Rattle.fb_tasks.proofs.Words.{IsAtWork, IsCutFrom, Tells, MayTake, IsCall, all_weaker, same_Some, ne_eqb, one_or_other}
+use Rattle.fb_tasks.proofs.Words.{BeginsIn, IsAmong, chunk_of, Chunks, IsAtWork, IsCutFrom, Tells, MayTake, IsCall, all_weaker, ne_eqb, one_or_other}
 use Rattle.fb_tasks.proofs.Words.{all_append, any_of_none, each_push, get_or_push, length-map, map-append, slice_get-get_or}
 use Rattle.fb_tasks.proofs.Words.{slice_get_within}
 use Rattle.fb_tasks.proofs.Words.{places, is_clean, is_backup, Content, drop-append_seam, cutting, is_within, Wanted, is_delivered}
@@ -17,7 +17,8 @@ use Rattle.fb_tasks.proofs.Words.{take_call, blocks_by, HasBegun, is_done, new_e
 use Rattle.fb_tasks.proofs.Rules.{opened_same, open_there, terms_there, given_few}
 use Rattle.fb_tasks.proofs.{Frames.kept-entries, Frames.one-tells, States.seen}
 use Rattle.fb_tasks.proofs.Registered.{named_same, numbered_joined, fresh_wanted, registered-entries}
-use Rattle.fb_tasks.proofs.Cuts.{cuts_placed, cuts_ascend, cuts_numbered, cuts_own, cuts_count}
+use Rattle.fb_tasks.proofs.Cuts.{cuts_placed, cuts_ascend, cuts_begin, cuts_numbered, cuts_own, cuts_count}
+use Rattle.fb_tasks.proofs.Changes.{open_by}
 use Rattle.fb_script.specs.Allowed as allowed
 use Rattle.fb_clean.specs.Segments as clean
 use Rattle.fb_wanted.specs.Numbering as numbering
@@ -58,6 +59,7 @@ fresh-told v kind weight block session terms fresh light size now none = record 
     ascend = λ backup. rw none tt;
     unwanted = λ backup _. none;
     image = λ is_open. record { each = rw none tt; only = λ lbn _. fresh.image lbn };
+    near = λ is_open. rw none tt;
     log = λ cleans. rw fresh.log (fresh-cleans v block (ap (λ t. t.block) terms) now none);
     unchosen = λ other. now.choices;
   };
@@ -239,26 +241,29 @@ added-tells disk past call task first blocks age live seen session log held is w
     (rw own_now (added-told (view past task) first blocks age live may.not_closed session told)) h.tells)
 
 -- an open backup holds nothing as yet, and no other session is an image
-wanted-told : (task : ℕ) (added : List Block) (v : TaskView) (session : Session) → is_clean session.kind ≡ false
+wanted-told : (task : ℕ) (added : List Block) (v : TaskView) (session : Session) (chunks : Chunks) → is_clean session.kind ≡ false
     → is_backup session.kind && v.wants ≡ false → Ascend 0 added → AllByRecursion (λ b. b.task ≡ task) added
-    → Told v session → Told (wanted_view task added v) (record session { touched = true })
-wanted-told task added v session other once ascends own h =
+    → (is_unsealed v ≡ true → AllByRecursion (BeginsIn chunks) added)
+    → Told v session → Told (wanted_view task added v) (record session { touched = true; chunks = chunks })
+wanted-told task added v session chunks other once ascends own begins h =
     let view = wanted_view task added v in
     let none : is_backup session.kind ≡ true → v.blocks ≡ [] = λ backup. h.unwanted backup (rw backup at once) in
     let wants : is_backup session.kind ≡ true → true ≡ false → v.blocks ++ added ≡ [] = λ backup never. absurd (true≢false never) in
     let ascend : is_backup session.kind ≡ true → Ascend 0 (v.blocks ++ added) = λ backup. rw (none backup) ascends in
-    let image : is_unsealed v ≡ true → HoldsImage view.work (held_at session.image) = λ is_open.
-    let empty = none (ap (λ t. is_backup t.kind) (sym h.terms) ∙ (and_parts (is_backup v.terms.kind) (not v.sealed) is_open).0) in record {
-      each = rw empty (all_weaker (λ b. view.bare b ≡ Wanted) (HoldsBlock view.work (held_at session.image))
+    let empty = λ (is_open : is_unsealed v ≡ true).
+    none (ap (λ t. is_backup t.kind) (sym h.terms) ∙ (and_parts (is_backup v.terms.kind) (not v.sealed) is_open).0) in
+    let near : is_unsealed v ≡ true → AllByRecursion (BeginsIn chunks) (v.blocks ++ added) = λ is_open. rw (empty is_open) (begins is_open) in
+    let image : is_unsealed v ≡ true → HoldsImage view.work (held_at session.image) = λ is_open. record {
+      each = rw (empty is_open) (all_weaker (λ b. view.bare b ≡ Wanted) (HoldsBlock view.work (held_at session.image))
           (λ b fresh done. absurd (true≢false (sym done ∙ ap is_delivered fresh))) added
           (fresh_wanted task added v.bare view.bare (λ _. refl) own));
-      only = λ lbn outside. (h.image is_open).only lbn (ap (list_any (λ b. is_within b.lbn b.count lbn)) empty);
+      only = λ lbn outside. (h.image is_open).only lbn (ap (list_any (λ b. is_within b.lbn b.count lbn)) (empty is_open));
     } in
     let log : is_clean session.kind ≡ true → Cleans view.work session.log = λ cleans. absurd (true≢false (sym cleans ∙ other)) in
     let at_work : IsAtWork view.work session = λ cleans. absurd (true≢false (sym cleans ∙ other)) in
     let reported : AreReported view.work = rw (h.unchosen other) tt in
     let quiet : true ≡ false → IsQuiet view = λ untouched. absurd (true≢false untouched) in
-    assumption (wants, ascend, image, log, at_work, reported, quiet, h)
+    assumption (wants, ascend, near, image, log, at_work, reported, quiet, h)
 
 -- what a want may ask for, of its session
 pub record MayWant (disk : Shape) (past : Past) (task first count : ℕ) (held : List Entry) (session : Session) : Type 0 where
@@ -306,13 +311,14 @@ may_want disk past call task first count sessions session held is at h =
     }
 
 module _ (disk : Shape) (past : Past) (call : Call) (task first count : ℕ) (is : IsCall task (Want first count) call) (added : List Block)
-    (own : AllByRecursion (λ b. b.task ≡ task) added) where
+    (own : AllByRecursion (λ b. b.task ≡ task) added) (chunks : Chunks) where
   pub wanting-tells : (sessions : List Session) (session : Session) (held now : List Entry) → slice_get sessions task ≡ Some session
       → task < length (tasks past) → is_clean session.kind ≡ false → is_backup session.kind && (view past task).wants ≡ false
       → Ascend 0 added → AreNumbered (length (view past task).blocks) added → AllByRecursion (IsBlockOf disk (length (tasks past))) added
+      → (is_unsealed (view past task) ≡ true → AllByRecursion (BeginsIn chunks) added)
       → now ≡ held ++ new_entries session added → Tells disk past sessions held
-      → Tells disk (called call added ∷ past) (set sessions task (record session { touched = true })) now
-  wanting-tells sessions session held now there opened other once ascends after on_disk pushed h =
+      → Tells disk (called call added ∷ past) (set sessions task (record session { touched = true; chunks = chunks })) now
+  wanting-tells sessions session held now there opened other once ascends after on_disk begins pushed h =
       let mine : AllByRecursion (λ b. b.task ≡ call.task) added = rw is.task own in
       let kept : tasks (called call added ∷ past) ≡ tasks past = ap (λ a. opened_by a (tasks past)) is.action in
       let own_now = wanted-view past call first count is.action added mine task is.task in
@@ -320,7 +326,7 @@ module _ (disk : Shape) (past : Past) (call : Call) (task first count : ℕ) (is
       λ (t : ℕ) (far : (task == t) ≡ false). wanted-silent past call first count is.action added mine t (ap (λ k. k == t) is.task ∙ far) in
       let told = h.each task session there in
       let placed = h.placed task in
-      one-tells disk past (called call added) task others kept sessions (record session { touched = true }) held now opened
+      one-tells disk past (called call added) task others kept sessions (record session { touched = true; chunks = chunks }) held now opened
       (all_append (IsBlockOf disk (length (tasks past))) (registered past) added h.on_disk on_disk)
       (registered-entries past (called call added ∷ past) task added others (λ block. ap (λ v. v.bare block) own_now)
       (ap (λ v. v.suspended) own_now) placed.numbered after own session held now told.suspended h.entries pushed)
@@ -329,16 +335,18 @@ module _ (disk : Shape) (past : Past) (call : Call) (task first count : ℕ) (is
             ≡ 0 + length (view past task).blocks = omega arith in subst (λ n. AreNumbered n added) e after);
         segments = placed.segments;
       }))
-      (rw own_now (wanted-told task added (view past task) session other once ascends own told)) h
+      (rw own_now (wanted-told task added (view past task) session chunks other once ascends own begins told)) h
 
-pub wanted-tells : (disk : Shape) (past : Past) (call : Call) (task first count : ℕ) (seen touched : List Session)
-    (session : Session) (held now : List Entry) → length (places disk) ≤ 10 ^ 12 → IsCall task (Want first count) call → task < length seen
-    → session ≡ get_or seen task session
+pub wanted-tells : (disk : Shape) (past : Past) (call : Call) (task first count : ℕ) (seen : List Session)
+    (session : Session) (chunks : Chunks) (held now : List Entry) → length (places disk) ≤ 10 ^ 12 → IsCall task (Want first count) call
+    → task < length seen → session ≡ get_or seen task session
+    → ((is_backup session.kind && not session.sealed) ≡ true → (lbn : ℕ) → first ≤ lbn → lbn < first + count
+    → IsAmong chunks (chunk_of lbn))
     → now ≡ held ++ new_entries session (numbered task session.weight (numbering.registered_count task (numbering.blocks_of held))
     (cutting disk session.block first count))
-    → ((s : Session) → slice_get seen task ≡ Some s → touched ≡ set seen task (record s { touched = true }))
-    → MayTake disk past seen held call → Tells disk (take_call disk past call) touched now
-wanted-tells disk past call task first count seen touched session held now small is within at pushed flagged h =
+    → MayTake disk past seen held call
+    → Tells disk (take_call disk past call) (set seen task (record session { touched = true; chunks = chunks })) now
+wanted-tells disk past call task first count seen session chunks held now small is within at begins pushed h =
     let there = slice_get-get_or seen task session within ∙ ap Some (sym at) in
     let may = may_want disk past call task first count seen session held is there h in
     let taken : blocks_by disk past call.task call.action
@@ -349,31 +357,32 @@ wanted-tells disk past call task first count seen touched session held now small
     let are = cuts_are disk session.block first count may.stands.block.0 in
     let added_are : numbered task session.weight (numbering.registered_count task (numbering.blocks_of held)) cuts
     ≡ numbered task session.weight next cuts = ap (λ n. numbered task session.weight n cuts) may.next in
-    rw (taken, flagged session there) (wanting-tells disk past call task first count is (numbered task session.weight next cuts)
-    (cuts_own task session.weight next cuts) seen session held now there may.opened may.other may.once
+    rw taken (wanting-tells disk past call task first count is (numbered task session.weight next cuts)
+    (cuts_own task session.weight next cuts) chunks seen session held now there may.opened may.other may.once
     (cuts_ascend disk task session.weight session.block next first (first + count) 0 cuts (omega arith) are)
     (cuts_numbered task session.weight next cuts)
     (cuts_placed disk (length (tasks past)) task session.weight session.block next first
     (first + count) cuts may.opened may.stands.weight may.stands.block.1 may.on_disk (omega (arith, may.on_disk, small)) are)
+    (λ is_open. cuts_begin (λ lbn. IsAmong chunks (chunk_of lbn)) disk task session.weight session.block next first first (first + count) cuts
+    (omega arith) (begins (sym (open_by (view past task) session may.stands) ∙ is_open)) are)
     (pushed ∙ ap (λ bs. held ++ new_entries session bs) added_are) h.tells)
 
 -- what a want registers are the blocks that the call gives, in their states: so are the first of them
 pub wanted_begun : (disk : Shape) (past : Past) (call : Call) (task first count : ℕ) (seen : List Session)
-    (session : Session) (held now : List Entry) → length (places disk) ≤ 10 ^ 12 → IsCall task (Want first count) call → task < length seen
-    → session ≡ get_or seen task session
+    (session : Session) (chunks : Chunks) (held now : List Entry) → length (places disk) ≤ 10 ^ 12 → IsCall task (Want first count) call
+    → task < length seen → session ≡ get_or seen task session
+    → ((is_backup session.kind && not session.sealed) ≡ true → (lbn : ℕ) → first ≤ lbn → lbn < first + count
+    → IsAmong chunks (chunk_of lbn))
     → MayTake disk past seen held call
     → HasBegun held (new_entries session
     (numbered task session.weight (numbering.registered_count task (numbering.blocks_of held))
     (cutting disk session.block first count))) now
     → HasBegun held (entries_by disk past call) now
-wanted_begun disk past call task first count seen session held now small is within at h begun =
-    let there = slice_get-get_or seen task session within ∙ ap Some (sym at) in
+wanted_begun disk past call task first count seen session chunks held now small is within at begins h begun =
     let added = new_entries session (numbered task session.weight (numbering.registered_count task (numbering.blocks_of held))
     (cutting disk session.block first count)) in
     let entry = entry_of (take_call disk past call) in
-    let tells = wanted-tells disk past call task first count seen (set seen task (record session { touched = true })) session held (held
-    ++ added) small is within at refl
-    (λ s here. ap (λ (x : Session). set seen task (record x { touched = true })) (same_Some session s (sym there ∙ here))) h in
+    let tells = wanted-tells disk past call task first count seen session chunks held (held ++ added) small is within at begins refl h in
     let all : held ++ added ≡ map entry (registered past) ++ entries_by disk past call = tells.entries
     ∙ map-append entry (registered past) (blocks_by disk past call.task call.action) in
     let size : length held ≡ length (map entry (registered past)) = rw h.tells.entries (simp length-map) in

@@ -13,7 +13,7 @@ use Rattle.fb_tasks.proofs.Words.{Ascend, IsAtNumber, entry_of, Stands, MayChoos
 use Rattle.fb_tasks.proofs.Words.{all_append, all_filter, all_pass, all_flat, all_same, ne_eqb, none_of_any, one_or_other, same_Some}
 use Rattle.fb_tasks.proofs.Words.{filter_same, nat_tests, or-true, length-map, map-append, nil_from_length, filter-append, Kind, is_backup}
 use Rattle.fb_tasks.proofs.Words.{is_clean, ContentRun, runs_of, sectors_of, BackRow, BackSegment, segment_row, segment_rows_found}
-use Rattle.fb_tasks.proofs.Words.{is_newly_cleaned}
+use Rattle.fb_tasks.proofs.Words.{is_newly_cleaned, BeginsIn}
 use Rattle.fb_tasks.proofs.Words.{found_for, held_at, HasChosenUpTo, HasGrown, HasBegun, HasBegunUpTo, entries_after}
 use Rattle.fb_tasks.proofs.Leaving.{grown_not, grown_behind, begun_whole}
 use Rattle.fb_tasks.proofs.Registered.{fresh_wanted, no_smaller, numbered_joined, registered-entries, named_same}
@@ -382,9 +382,12 @@ module _ {disk : Shape} {past : Past} {task : ℕ} {session : Session} {held : L
       let image : is_unsealed v ≡ true → HoldsImage (after best).work (held_at session.image) = λ is_open.
       absurd (no_backup session.kind cleans.0
       (ap (λ t. is_backup t.kind) (sym h.terms) ∙ (and_parts (is_backup v.terms.kind) (not v.sealed) is_open).0)) in
+      let near : is_unsealed v ≡ true → AllByRecursion (BeginsIn session.chunks) (after best).blocks = λ is_open.
+      absurd (no_backup session.kind cleans.0
+      (ap (λ t. is_backup t.kind) (sym h.terms) ∙ (and_parts (is_backup v.terms.kind) (not v.sealed) is_open).0)) in
       let log_now = λ (_ : is_clean session.kind ≡ true). now in
       let unchosen : is_clean session.kind ≡ false → (after best).choices ≡ [] = λ other. absurd (true≢false (sym cleans.0 ∙ other)) in
-      assumption (ascend, unwanted, image, log_now, unchosen, h)
+      assumption (ascend, unwanted, image, near, log_now, unchosen, h)
 
   -- a new block is not delivered, so its choice is not cleaned
   uncleaned : (best : LogSegment) → 0 < length (added best) → is_cleaned (after best).work (chosen_for disk task v best) ≡ false

@@ -40,6 +40,16 @@ cuts_ascend disk task weight block n from end low (cut ∷ cuts) le h = (
   cuts_ascend disk task weight block (n + 1) (from + cut.count) end (cut.lbn + cut.count) cuts (omega (arith, h.0)) h.4,
 )
 
+-- what is so of each sector of the range is so of where each begins
+pub cuts_begin : (P : ℕ → Type 0) (disk : Shape) (task weight block n low from end : ℕ) (cuts : List Cut) → low ≤ from
+    → ((lbn : ℕ) → low ≤ lbn → lbn < end → P lbn) → AreCuts disk block from end cuts
+    → AllByRecursion (λ b. P b.lbn) (numbered task weight n cuts)
+cuts_begin P disk task weight block n low from end [] le each h = tt
+cuts_begin P disk task weight block n low from end (cut ∷ cuts) le each h = (
+  each cut.lbn (omega (arith, h.0)) (omega (arith, h.0, h.1, cuts_rise disk block (from + cut.count) end cuts h.4)),
+  cuts_begin P disk task weight block (n + 1) low (from + cut.count) end cuts (omega arith) each h.4,
+)
+
 -- none ends behind the range
 pub cuts_end : (disk : Shape) (task weight block n from end : ℕ) (cuts : List Cut) → AreCuts disk block from end cuts
     → AllByRecursion (λ b. b.lbn + b.count ≤ end) (numbered task weight n cuts)

@@ -4,6 +4,7 @@ pub mod Frames
 pub mod States
 pub mod Changes
 pub mod Rules
+pub mod Nearby
 pub mod Listed
 pub mod Additions
 pub mod Registered

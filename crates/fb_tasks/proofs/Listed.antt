@@ -1,129 +1,117 @@
--- The lists of touched sessions and of those that a write checks, as sessions change.
-use Rattle.fb_tasks.proofs.Words.{◌≡◌, ◌⊎◌, ◌<◌, ◌&&◌, not, ℕ, Bool, List, [], ◌∷◌, ◌++◌, length, true, false, Some, inl, inr, set, get_or}
-use Rattle.fb_tasks.proofs.Words.{slice_get, length-append, ap, sym, ◌∙◌, arith, BTreeSet, contains, nat_cmp, true≢false, length-set}
-use Rattle.fb_tasks.proofs.Words.{slice_get-get_or, is_backup, Session, AreListed, IsNoted, each_set, each_push}
+-- The list of touched sessions and the notes of those that writes look at, as sessions change.
+use Rattle.fb_tasks.proofs.Words.{◌≡◌, ◌⊎◌, ◌<◌, ℕ, List, [], ◌∷◌, ◌++◌, length, true, false, Some, inl, inr, set, get_or}
+use Rattle.fb_tasks.proofs.Words.{slice_get, length-append, ap, sym, ◌∙◌, arith, subst, BTreeSet, contains, nat_cmp, pair_cmp, true≢false}
+use Rattle.fb_tasks.proofs.Words.{length-set, slice_get-get_or, Session, AreListed, IsAmong, each_set, each_push}
 
 abbrev IsTouchedIn : BTreeSet ℕ → ℕ → Session → Type 0
 IsTouchedIn list k session = session.touched ≡ true → contains nat_cmp list k ≡ true
 
-abbrev IsCheckedIn : BTreeSet ℕ → ℕ → Session → Type 0
-IsCheckedIn list k session = (is_backup session.kind && not session.sealed) ≡ true → contains nat_cmp list k ≡ true
+abbrev IsNotedIn : BTreeSet (ℕ × ℕ) → ℕ → Session → Type 0
+IsNotedIn near k session = (chunk : ℕ) → IsAmong session.chunks chunk → contains pair_cmp near (chunk, k) ≡ true
 
 the_other : {P Q : Type 0} → P ⊎ Q → (P → ⊥) → Q
 the_other either none = elim either [ inl p ↦ absurd (none p) | inr q ↦ q ]
 
-module _ {sessions : List Session} {listed_touched checked_by_writes : BTreeSet ℕ}
-    (h : AreListed sessions listed_touched checked_by_writes) where
-  -- a session changes, and is listed where it has to be
-  listed_changed : (task : ℕ) (new : Session) → IsTouchedIn listed_touched task new → IsCheckedIn checked_by_writes task new
-      → AreListed (set sessions task new) listed_touched checked_by_writes
-  listed_changed task new there checked_there = record {
+module _ {sessions : List Session} {listed_touched : BTreeSet ℕ} {near : BTreeSet (ℕ × ℕ)} (h : AreListed sessions listed_touched near) where
+  -- a session changes, and is listed and noted where it has to be
+  listed_changed : (task : ℕ) (new : Session) → IsTouchedIn listed_touched task new → IsNotedIn near task new
+      → AreListed (set sessions task new) listed_touched near
+  listed_changed task new there noted_there = record {
     room = omega (arith, h.room, length-set sessions task new);
     listed = each_set (IsTouchedIn listed_touched) sessions task new there (λ k session differ at. h.listed k session at);
-    covered = h.covered;
-    backups = each_set (IsCheckedIn checked_by_writes) sessions task new checked_there (λ k session differ at. h.backups k session at);
     within = λ k is. omega (arith, h.within k is, length-set sessions task new);
+    noted = each_set (IsNotedIn near) sessions task new noted_there (λ k session differ at. h.noted k session at);
   }
 
-module _ {sessions : List Session} {listed_touched checked_by_writes : BTreeSet ℕ}
-    (h : AreListed sessions listed_touched checked_by_writes) where
+  -- what has the chunks of a session is noted as it is
+  noted_same : (task : ℕ) (old new : Session) → slice_get sessions task ≡ Some old → new.chunks ≡ old.chunks → IsNotedIn near task new
+  noted_same task old new at same chunk among = h.noted task old at chunk (subst (λ chunks. IsAmong chunks chunk) same among)
+
+  -- more is noted
+  pub listed_near : (more : BTreeSet (ℕ × ℕ)) → ((k : ℕ × ℕ) → contains pair_cmp near k ≡ true → contains pair_cmp more k ≡ true)
+      → AreListed sessions listed_touched more
+  listed_near more stay = record {
+    room = h.room;
+    listed = h.listed;
+    within = h.within;
+    noted = λ k session at chunk among. stay (chunk, k) (h.noted k session at chunk among);
+  }
+
+module _ {sessions : List Session} {listed_touched : BTreeSet ℕ} {near : BTreeSet (ℕ × ℕ)} (h : AreListed sessions listed_touched near) where
   -- it is listed already
-  pub listed_set : (task : ℕ) (new : Session) → contains nat_cmp listed_touched task ≡ true
-      → AreListed (set sessions task new) listed_touched checked_by_writes
-  listed_set task new there = listed_changed h task new (λ _. there) (λ _. h.covered task there)
+  pub listed_set : (task : ℕ) (old new : Session) → slice_get sessions task ≡ Some old → contains nat_cmp listed_touched task ≡ true
+      → new.chunks ≡ old.chunks → AreListed (set sessions task new) listed_touched near
+  listed_set task old new at there same = listed_changed h task new (λ _. there) (noted_same h task old new at same)
 
   -- or was touched
   pub listed_touched-set : (task : ℕ) (old new : Session) → task < length sessions → old ≡ get_or sessions task old → old.touched ≡ true
-      → AreListed (set sessions task new) listed_touched checked_by_writes
-  listed_touched-set task old new within at touched =
-      listed_set task new (h.listed task old (slice_get-get_or sessions task old within ∙ ap Some (sym at)) touched)
-
-  -- or stays as touched and as open as it was
-  pub listed_kept : (task : ℕ) (old new : Session) → task < length sessions → old ≡ get_or sessions task old
-      → new.touched ≡ old.touched → (is_backup new.kind && not new.sealed) ≡ (is_backup old.kind && not old.sealed)
-      → AreListed (set sessions task new) listed_touched checked_by_writes
-  listed_kept task old new within at same open_same =
+      → new.chunks ≡ old.chunks → AreListed (set sessions task new) listed_touched near
+  listed_touched-set task old new within at touched same =
       let there = slice_get-get_or sessions task old within ∙ ap Some (sym at) in
-      listed_changed h task new (λ is. h.listed task old there (sym same ∙ is)) (λ is. h.backups task old there (sym open_same ∙ is))
+      listed_set task old new there (h.listed task old there touched) same
 
-  -- a listed task has a session
-  pub listed_within : (task : ℕ) → contains nat_cmp listed_touched task ≡ true → task < length sessions
-  listed_within task is = h.within task (h.covered task is)
+  -- or stays as touched as it was
+  pub listed_kept : (task : ℕ) (old new : Session) → task < length sessions → old ≡ get_or sessions task old
+      → new.touched ≡ old.touched → new.chunks ≡ old.chunks → AreListed (set sessions task new) listed_touched near
+  listed_kept task old new within at touched same =
+      let there = slice_get-get_or sessions task old within ∙ ap Some (sym at) in
+      listed_changed h task new (λ is. h.listed task old there (sym touched ∙ is)) (noted_same h task old new there same)
 
-  -- which is
+  -- which is a listed task's session
   pub listed_there : (task : ℕ) (session : Session) → contains nat_cmp listed_touched task ≡ true → session ≡ get_or sessions task session
       → slice_get sessions task ≡ Some session
-  listed_there task session is at = slice_get-get_or sessions task session (listed_within task is) ∙ ap Some (sym at)
+  listed_there task session is at = slice_get-get_or sessions task session (h.within task is) ∙ ap Some (sym at)
 
-  -- a task is noted
-  module _ {task : ℕ} {more_touched more_checked : BTreeSet ℕ} (less : task < length sessions)
-      (is : IsNoted task listed_touched checked_by_writes more_touched more_checked) where
-    pub listed_more : AreListed sessions more_touched more_checked
+  -- a task is listed
+  module _ {task : ℕ} {more : BTreeSet ℕ} (less : task < length sessions)
+      (stay : (k : ℕ) → contains nat_cmp listed_touched k ≡ true → contains nat_cmp more k ≡ true)
+      (only : (k : ℕ) → contains nat_cmp more k ≡ true → (k ≡ task) ⊎ (contains nat_cmp listed_touched k ≡ true)) where
+    pub listed_more : AreListed sessions more near
     listed_more = record {
       room = h.room;
-      listed = λ k session at now. is.stay k (h.listed k session at now);
-      covered = λ k now. elim (is.covers k now) [ inl new ↦ new | inr before ↦ is.checked_stay k (h.covered k before) ];
-      backups = λ k session at now. is.checked_stay k (h.backups k session at now);
-      within = λ k now. elim (is.checked_only k now) [ inl it ↦ omega (arith, it, less) | inr before ↦ h.within k before ];
+      listed = λ k session at now. stay k (h.listed k session at now);
+      within = λ k now. elim (only k now) [ inl it ↦ omega (arith, it, less) | inr before ↦ h.within k before ];
+      noted = h.noted;
     }
 
     -- and its session changes
-    pub listed_noted : contains nat_cmp more_touched task ≡ true → contains nat_cmp more_checked task ≡ true → (new : Session)
-        → AreListed (set sessions task new) more_touched more_checked
-    listed_noted noted checked_noted new = listed_changed listed_more task new (λ _. noted) (λ _. checked_noted)
+    pub listed_noted : contains nat_cmp more task ≡ true → (old new : Session) → old ≡ get_or sessions task old
+        → new.chunks ≡ old.chunks → AreListed (set sessions task new) more near
+    listed_noted noted old new at same = listed_changed listed_more task new (λ _. noted)
+        (noted_same listed_more task old new (slice_get-get_or sessions task old less ∙ ap Some (sym at)) same)
 
-  -- a session that isn't touched is opened, and is listed as checked by writes if it is a backup
-  pub listed_push : (new : Session) (more_checked : BTreeSet ℕ) (task : ℕ) → task ≡ length sessions → new.touched ≡ false
-      → length sessions < 4294967295 → ((k : ℕ) → contains nat_cmp checked_by_writes k ≡ true → contains nat_cmp more_checked k ≡ true)
-      → ((k : ℕ) → contains nat_cmp more_checked k ≡ true → (k ≡ task) ⊎ (contains nat_cmp checked_by_writes k ≡ true))
-      → ((is_backup new.kind && not new.sealed) ≡ true → contains nat_cmp more_checked task ≡ true)
-      → AreListed (sessions ++ new ∷ []) listed_touched more_checked
-  listed_push new more_checked task last untouched more stay only there = record {
+    -- and its session changes, which is noted in all its chunks
+    pub listed_anew : contains nat_cmp more task ≡ true → (new : Session)
+        → ((chunk : ℕ) → IsAmong new.chunks chunk → contains pair_cmp near (chunk, task) ≡ true)
+        → AreListed (set sessions task new) more near
+    listed_anew noted new near_noted = listed_changed listed_more task new (λ _. noted) near_noted
+
+  -- a session that isn't touched is opened, without chunks
+  pub listed_push : (new : Session) → new.touched ≡ false → ((chunk : ℕ) → IsAmong new.chunks chunk → ⊥)
+      → length sessions < 4294967295 → AreListed (sessions ++ new ∷ []) listed_touched near
+  listed_push new untouched none more = record {
     room = omega (arith, more, length-append sessions (new ∷ []));
     listed = each_push (IsTouchedIn listed_touched) sessions new (λ is. absurd (true≢false (sym is ∙ untouched))) h.listed;
-    covered = λ k is. stay k (h.covered k is);
-    backups = each_push (IsCheckedIn more_checked) sessions new (λ is. ap (contains nat_cmp more_checked) (sym last) ∙ there is)
-        (λ k session at is. stay k (h.backups k session at is));
-    within = λ k is. elim (only k is) [
-      | inl it ↦ omega (arith, it, last, length-append sessions (new ∷ []))
-      | inr old ↦ omega (arith, h.within k old, length-append sessions (new ∷ []))
-    ];
+    within = λ k is. omega (arith, h.within k is, length-append sessions (new ∷ []));
+    noted = each_push (IsNotedIn near) sessions new (λ chunk among. absurd (none chunk among)) h.noted;
   }
 
-  -- a task was tested: it isn't touched any more, and stays checked by writes if it is an open backup
-  pub listed_less : (task : ℕ) (new : Session) (less less_checked : BTreeSet ℕ) (flag : Bool) → contains nat_cmp listed_touched task ≡ true
-      → new.touched ≡ false → flag ≡ (is_backup new.kind && not new.sealed)
+  -- a task was tested: it isn't touched any more, and what it lost of its chunks was taken out
+  pub listed_less : (task : ℕ) (old new : Session) (less : BTreeSet ℕ) (fewer : BTreeSet (ℕ × ℕ)) (Lost : ℕ → Type 0)
+      → slice_get sessions task ≡ Some old → new.touched ≡ false
       → ((k : ℕ) → contains nat_cmp listed_touched k ≡ true → (k ≡ task) ⊎ (contains nat_cmp less k ≡ true))
-      → ((k : ℕ) → contains nat_cmp less k ≡ true → contains nat_cmp listed_touched k ≡ true) → contains nat_cmp less task ≡ false
-      → ((k : ℕ) → contains nat_cmp checked_by_writes k ≡ true → (k ≡ task) ⊎ (contains nat_cmp less_checked k ≡ true))
-      → ((k : ℕ) → contains nat_cmp less_checked k ≡ true → contains nat_cmp checked_by_writes k ≡ true)
-      → (flag ≡ true → contains nat_cmp checked_by_writes task ≡ true → contains nat_cmp less_checked task ≡ true)
-      → AreListed (set sessions task new) less less_checked
-  listed_less task new less less_checked flag there untouched is_open others only gone checked_others checked_only kept = record {
+      → ((k : ℕ) → contains nat_cmp less k ≡ true → contains nat_cmp listed_touched k ≡ true)
+      → ((k : ℕ × ℕ) → contains pair_cmp near k ≡ true → ((k.1 ≡ task) × Lost k.0) ⊎ (contains pair_cmp fewer k ≡ true))
+      → ((chunk : ℕ) → IsAmong new.chunks chunk → IsAmong old.chunks chunk × (Lost chunk → ⊥))
+      → AreListed (set sessions task new) less fewer
+  listed_less task old new less fewer Lost at untouched others only near_others chunks = record {
     room = omega (arith, h.room, length-set sessions task new);
     listed = each_set (IsTouchedIn less) sessions task new (λ is. absurd (true≢false (sym is ∙ untouched)))
-        (λ k session differ at is. the_other (others k (h.listed k session at is)) (λ it. differ (sym it)));
-    covered = λ k is. the_other (checked_others k (h.covered k (only k is)))
-        (λ it. true≢false (sym is ∙ (ap (contains nat_cmp less) it ∙ gone)));
-    backups = each_set (IsCheckedIn less_checked) sessions task new (λ is. kept (is_open ∙ is) (h.covered task there))
-        (λ k session differ at is. the_other (checked_others k (h.backups k session at is)) (λ it. differ (sym it)));
-    within = λ k is. omega (arith, h.within k (checked_only k is), length-set sessions task new);
+        (λ k session differ there is. the_other (others k (h.listed k session there is)) (λ it. differ (sym it)));
+    within = λ k is. omega (arith, h.within k (only k is), length-set sessions task new);
+    noted = each_set (IsNotedIn fewer) sessions task new
+        (λ chunk among. let was = chunks chunk among in
+        the_other (near_others (chunk, task) (h.noted task old at chunk was.0)) (λ gone. was.1 gone.1))
+        (λ k session differ there chunk among. the_other (near_others (chunk, k) (h.noted k session there chunk among))
+        (λ gone. differ (sym gone.0)));
   }
-
-  -- a note that failed added nothing
-  pub listed_failed : (more_checked : BTreeSet ℕ)
-      → ((k : ℕ) → contains nat_cmp checked_by_writes k ≡ true → contains nat_cmp more_checked k ≡ true)
-      → ((k : ℕ) → contains nat_cmp more_checked k ≡ true → contains nat_cmp checked_by_writes k ≡ true)
-      → AreListed sessions listed_touched more_checked
-  listed_failed more_checked stay only = record {
-    room = h.room;
-    listed = h.listed;
-    covered = λ k is. stay k (h.covered k is);
-    backups = λ k session at is. stay k (h.backups k session at is);
-    within = λ k is. h.within k (only k is);
-  }
-
-  -- what isn't checked by writes is no open backup
-  pub no_backup_there : (k : ℕ) (session : Session) → contains nat_cmp checked_by_writes k ≡ false → slice_get sessions k ≡ Some session
-      → (is_backup session.kind && not session.sealed) ≡ false
-  no_backup_there k session none at = grind (arith, h.backups k session at)

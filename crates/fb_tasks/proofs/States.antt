@@ -4,6 +4,7 @@ use Rattle.fb_tasks.proofs.Words.{ℕ, if◌then◌else◌, AllByRecursion, is_d
 use Rattle.fb_tasks.proofs.Words.{◌&&◌, Option, arith, Wanted, is_open, own_of, Content, Stands, IsQuiet, Cleans, Session, held_at, is_done}
 use Rattle.fb_tasks.proofs.Words.{false, true≢false, is_aborted, bare_state, with_states, is_unsealed, HoldsBlock, AreReported, is_complete}
 use Rattle.fb_tasks.proofs.Words.{Suspended, Aborted, is_wanted, TaskView, HoldsImage, IsAtWork, is_clean, all_weaker, terms_of, segments}
+use Rattle.fb_tasks.proofs.Words.{not, BeginsIn, Chunks, is_backup}
 use Rattle.fb_model.specs.History.{blocks_of}
 
 -- a block of a task that is held back is suspended where it would be wanted
@@ -70,9 +71,15 @@ holds-fewer work change fewer held blocks =
     all_weaker (HoldsBlock work held) (HoldsBlock (record work { bare = λ block. change block (work.bare block) }) held)
     (λ block holds done. holds (fewer block (work.bare block) done)) blocks
 
--- a session stands as it does whether it is touched or not
-pub flagged-stands : (flag : Bool) (v : TaskView) (session : Session) → Stands v session → Stands v (record session { touched = flag })
-flagged-stands flag v session h = assumption h
+-- a session stands as it does when it isn't touched any more, and without its chunks if it is no open backup
+pub cleared-stands : (chunks : Chunks) (v : TaskView) (session : Session)
+    → ((is_backup session.kind && not session.sealed) ≡ true → chunks ≡ session.chunks)
+    → Stands v session → Stands v (record session { touched = false; chunks = chunks })
+cleared-stands chunks v session stays h =
+    let near : is_unsealed v ≡ true → AllByRecursion (BeginsIn chunks) v.blocks = λ is_open.
+    let backup : (is_backup session.kind && not session.sealed) ≡ true = rw (h.terms, sym h.sealed) at is_open in
+    rw (stays backup) (h.near is_open) in
+    assumption (near, h)
 
 -- the states of a session change that cleans no log, and no more is delivered than before
 pub states-told : (change : Block → State → State)

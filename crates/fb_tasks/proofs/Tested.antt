@@ -15,7 +15,8 @@ use Rattle.fb_tasks.proofs.Words.{task_numbers, tested_view, is_unsealed, is_com
 use Rattle.fb_tasks.proofs.States.{seen}
 use Rattle.fb_tasks.proofs.RowsOf.{reported_rows, rows-given, nothing-mute}
 use Rattle.fb_tasks.proofs.{Sealed.held_same, Complete.busy_by, Frames.kept-entries}
-use Rattle.fb_tasks.proofs.{Frames.get_other, Frames.set_same, Additions.none-yet, States.flagged-stands, Cuts.range_next}
+use Rattle.fb_tasks.proofs.Words.{BeginsIn, AllByRecursion}
+use Rattle.fb_tasks.proofs.{Frames.get_other, Frames.set_same, Additions.none-yet, States.cleared-stands, Cuts.range_next}
 use Rattle.std.proofs.lemmas.Grind.{flat_map-append}
 use Rattle.fb_clean.specs.Segments as clean
 
@@ -133,8 +134,10 @@ module _ (task : ℕ) (v : TaskView) (rows : List BackRow) (given : AreTestRowsO
       let sealed : ((is_unsealed v && is_done v.work) || old.sealed) ≡ (tested_view task rows v).sealed = rw (given.seals, h.sealed) refl in
       let image : is_unsealed (tested_view task rows v) ≡ true → HoldsImage (tested_view task rows v).work (held_at mid.image) = λ is_open.
       assumption (holds_still (held_at old.image) (held_at mid.image) (is.image (open_was is_open).1) (h.image (open_was is_open).0)) in
+      let near : is_unsealed (tested_view task rows v) ≡ true → AllByRecursion (BeginsIn old.chunks) v.blocks =
+      λ is_open. h.near (open_was is_open).0 in
       let log = λ (cleans : is_clean old.kind ≡ true). cleans-tested task v rows given old.log (work cleans) (h.log cleans) in
-      rw is.same (assumption (sealed, image, log, h), work)
+      rw is.same (assumption (sealed, image, near, log, h), work)
 
 -- these rows are all that a test of the tasks has to give
 abbrev pub AreAllRows : Past → List BackRow → Type 0
@@ -183,16 +186,17 @@ none_tested {past} {old} {instant} {rows} =
     }
 
 module _ {past : Past} {old now : List Session} {instant : ℕ} {before rows : List BackRow} where
-  -- one more is tested, and no more touched
-  pub one_tested : {more : List BackRow} {n : ℕ} {new : Session} → AreTested past old now instant before rows n
-      → StandsAfterTest past n instant new rows more
-      → AreTested past old (set now n (record new { touched = false })) instant before more (n + 1)
-  one_tested {more} {n} {new} is test = let cleared = record new { touched = false } in record {
+  -- one more is tested, and no more touched; it keeps its chunks if it is an open backup
+  pub one_tested : {more : List BackRow} {n : ℕ} {new cleared : Session} → AreTested past old now instant before rows n
+      → StandsAfterTest past n instant new rows more → cleared ≡ record new { touched = false; chunks = cleared.chunks }
+      → ((is_backup new.kind && not new.sealed) ≡ true → cleared.chunks ≡ new.chunks)
+      → AreTested past old (set now n cleared) instant before more (n + 1)
+  one_tested {more} {n} {new} {cleared} is test same stays = record {
     as_many = length-set now n cleared ∙ is.as_many;
     later = λ k more. get_other now n k cleared (λ e. absurd (omega arith)) ∙ is.later k (omega arith);
     earlier = λ all given k some less at. let own = test.session all (given n) in
         each_set (λ k s. k < n + 1 → (Stands (view (tested all ∷ past) k) s) × (IsAtWork (view (tested all ∷ past) k).work s)) now n cleared
-        (λ _. (flagged-stands false (view (tested all ∷ past) n) new own.0, own.1))
+        (λ _. rw same (cleared-stands cleared.chunks (view (tested all ∷ past) n) new stays own.0, own.1))
         (λ k s differ at less. is.earlier all given k s (grind arith) at) k some at less;
     rows_are = rows_more (ends_of past instant) before rows more (ends_of past instant n) n is.rows_are test.rows refl;
   }
@@ -213,9 +217,8 @@ module _ {past : Past} {old now : List Session} {instant : ℕ} {before rows : L
             (ready.stands.complete ∙ quiet.tested) ready.stands ready.at_work);
         rows = rw (no-ends past instant k quiet.sealed quiet.tested) (sym (append-nil rows));
       } in
-      subst (λ xs. AreTested past old xs instant before rows (k + 1))
-      (ap (λ b. set now k (record found.0 { touched = b })) (sym flag) ∙ set_same now k found.0 found.1)
-      (one_tested is test))
+      subst (λ xs. AreTested past old xs instant before rows (k + 1)) (set_same now k found.0 found.1)
+      (one_tested is test (ap (λ b. record found.0 { touched = b }) flag) (λ _. refl)))
 
 pub untouched-tested : (disk : Shape) (past : Past) (held : List Entry) (h : HoldsBlocks disk past held) (task : ℕ)
     → length (tasks past) ≤ task → (rows : List BackRow) → AreTestRowsOf task (view past task) rows

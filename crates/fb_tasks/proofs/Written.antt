@@ -1,12 +1,14 @@
 -- A write, block by block: which blocks are wanted again, and that the tasks may be looked at in any order.
 use Rattle.fb_tasks.proofs.Words.{◌≡◌, ◌==◌, ◌&&◌, List, true, None, Some, subst, arith, Rewant, Block, Entry, shares, Shape, tasks, Tells}
 use Rattle.fb_tasks.proofs.Words.{ℕ, ◌+◌, ◌<◌, ◌≤◌, not, [], ◌∷◌, inl, inr, map, refl, ap, ap₂, sym, ◌∙◌, Past, view}
-use Rattle.fb_tasks.proofs.Words.{false, length, get_or, all_any, all_map, element_at, nat_cmp, Session, Request, finished, entry_of}
+use Rattle.fb_tasks.proofs.Words.{false, length, get_or, all_any, all_map, element_at, Session, Request, finished, entry_of}
 use Rattle.fb_tasks.proofs.Words.{left_in}
-use Rattle.fb_tasks.proofs.Words.{Option, cases_Bool, all_from_index, all_weaker, eqb-true, registered, SharesNone, entry_after, state_left}
+use Rattle.fb_tasks.proofs.Words.{Option, cases_Bool, all_from_index, all_weaker, eqb-true, registered, entry_after, state_left}
 use Rattle.fb_tasks.proofs.Words.{slice_get, slice_get-get_or, AllByRecursion, written-view, written-silent, slice_get_past, left_by_write}
 use Rattle.fb_tasks.proofs.Words.{nat_tests, cases_lt, and-false, all_with, map_same, BTreeSet, contains, is_backup, AreListed, IsBlockOf}
-use Rattle.fb_tasks.proofs.{Listed.no_backup_there, Changes.open_by, Changes.written-tells, States.show_rewanted}
+use Rattle.fb_tasks.proofs.Words.{◌^◌, true≢false, pair_cmp, AreNearby, IsNearby, IsAmong, BeginsIn, Chunks, chunk_of, filter_to, all_get}
+use Rattle.fb_tasks.proofs.Words.{same_number}
+use Rattle.fb_tasks.proofs.{Changes.open_by, Changes.written-tells, States.show_rewanted}
 
 map_still : {X : Type 0} (f : X → X) (xs : List X) → AllByRecursion (λ x. f x ≡ x) xs → xs ≡ map f xs
 map_still f [] h = refl
@@ -59,12 +61,20 @@ module _ (first count : ℕ) where
 
     -- the tasks before this one were looked at: the write leaves their blocks as they now are, and the same of all as before
     abbrev pub AreRewanted : ℕ → List Entry → List Entry → Type 0
-    AreRewanted task es now = (map left now ≡ map left es) × AllByRecursion (λ e. e.block.task < task → left e ≡ e) now
+    AreRewanted task es now =
+        (map left now ≡ map left es) × AllByRecursion (λ e. e.block.task < task → left e ≡ e) now × AreNearby sessions now
 
     pub one_rewanted : (task : ℕ) (es now new : List Entry) → new ≡ map (left_in task sessions first count) now → AreRewanted task es now
         → AreRewanted (task + 1) es new
     one_rewanted task es now new is h =
-        subst (AreRewanted (task + 1) es) (sym is) (same now ∙ h.0, all_map _ _ now (all_weaker _ _ more now h.1)) where
+        subst (AreRewanted (task + 1) es) (sym is) (
+          same now ∙ h.0,
+          all_map _ _ now (all_weaker _ _ more now h.1),
+          all_map _ _ now (all_weaker _ _ (λ e near. subst (IsNearby sessions) (sym (same_block e)) near) now h.2),
+        ) where
+          same_block : (e : Entry) → (left_in task sessions first count e).block ≡ e.block
+          same_block e = grind arith
+
           same : (xs : List Entry) → map left (map (left_in task sessions first count) xs) ≡ map left xs
           same [] = refl
           same (x ∷ xs) = elim (cases_Bool (x.block.task == task)) [
@@ -79,31 +89,40 @@ module _ (first count : ℕ) where
             | inr other ↦ rw other (λ less. before (grind (arith, nat_tests)))
           ]
 
-    module _ {items : List Session} {listed_touched checked_by_writes : BTreeSet ℕ} (same : items ≡ sessions)
-        (listed : AreListed items listed_touched checked_by_writes) where
-      unlisted : (e : Entry) → contains nat_cmp checked_by_writes e.block.task ≡ false → left e ≡ e
-      unlisted e none = elim (cases_lt e.block.task (length sessions)) [
-        | inl there ↦ let found = element_at sessions e.block.task there in
-            rw (
-              found.1,
-              no_backup_there (subst (λ xs. AreListed xs listed_touched checked_by_writes) same listed) e.block.task found.0 none found.1,
-            ) refl
+    module _ {items : List Session} {listed_touched : BTreeSet ℕ} {near : BTreeSet (ℕ × ℕ)} (same : items ≡ sessions)
+        (listed : AreListed items listed_touched near) {chunks : Chunks}
+        (begin : (block : Block) → block.lbn < 2 ^ 64 → block.count ≤ 2048 → shares first count block ≡ true → BeginsIn chunks block) where
+      -- a block of a task that is noted in none of the chunks stays as it is
+      unnoted : (e : Entry) → IsNearby sessions e.block
+          → ((chunk : ℕ) → IsAmong chunks chunk → contains pair_cmp near (chunk, e.block.task) ≡ false) → left e ≡ e
+      unnoted e nearby none = elim (cases_lt e.block.task (length sessions)) [
+        | inl there ↦
+            let found = element_at sessions e.block.task there in
+            elim (cases_Bool (is_backup found.0.kind && not found.0.sealed)) [
+              | inl is_open ↦ elim (cases_Bool (shares first count e.block)) [
+                | inl shared ↦
+                    let noted = (subst (λ xs. AreListed xs listed_touched near) same listed).noted e.block.task found.0 found.1
+                    (chunk_of e.block.lbn) (nearby.begins found.0 found.1 is_open) in
+                    absurd (true≢false (sym noted ∙ none (chunk_of e.block.lbn) (begin e.block nearby.small nearby.few shared)))
+                | inr outside ↦ still e (state_outside (slice_get sessions e.block.task) e outside)
+              ]
+              | inr other ↦ rw (found.1, other) refl
+            ]
         | inr past ↦ beyond e past
       ]
 
-      -- tasks are passed over that aren't listed, or else have no block near the range
-      pub passed : (from next task : ℕ) (es now : List Entry)
-          → ((k : ℕ) → from ≤ k → k < next → contains nat_cmp checked_by_writes k ≡ false)
-          → ((k : ℕ) → next ≤ k → k < task → SharesNone first count k now) → AreRewanted from es now → AreRewanted task es now
-      passed from next task es now unnoted far h =
-          let near = all_from_index (λ e. next ≤ e.block.task → e.block.task < task → left e ≡ e) now
-          (λ i e at low high. still e (state_outside (slice_get sessions e.block.task) e (far e.block.task low high i e at refl))) in
-          let rest : AllByRecursion (λ e. e.block.task < task → left e ≡ e) now =
-          all_with _ _ _ (λ e none before less. elim (cases_lt e.block.task from) [
-            | inl earlier ↦ before earlier
-            | inr later ↦
-                elim (cases_lt e.block.task next) [ inl low ↦ unlisted e (unnoted e.block.task later low) | inr high ↦ none high less ]
-          ]) now near h.1 in (h.0, rest)
+      -- tasks are passed over that aren't noted
+      pub passed : (from task : ℕ) (es now : List Entry)
+          → ((chunk k : ℕ) → IsAmong chunks chunk → from ≤ k → k < task → contains pair_cmp near (chunk, k) ≡ false)
+          → AreRewanted from es now → AreRewanted task es now
+      passed from task es now none h = (
+        h.0,
+        all_with _ _ _ (λ e before nearby less. elim (cases_lt e.block.task from) [
+          | inl earlier ↦ before earlier
+          | inr later ↦ unnoted e nearby (λ chunk among. none chunk e.block.task among later less)
+        ]) now h.1 h.2,
+        h.2,
+      )
 
     pub all_rewanted : (from : ℕ) (es now : List Entry) → length sessions ≤ from → AreRewanted from es now → now ≡ map left es
     all_rewanted from es now all h = map_still left now (all_weaker _ _ (λ e before. elim (cases_lt e.block.task from) [
@@ -141,3 +160,19 @@ module _ (disk : Shape) (past : Past) (request : Request) (write : request.write
   left-tells first count now lbn sectors is = written-tells disk past request write sessions held now
       (is ∙ (ap₂ (λ f n. map (left_by_write sessions f n) held) (sym lbn) (sym sectors)
       ∙ (ap (map (left_by_write sessions request.lbn request.count)) h.entries ∙ all_told (registered past) h.on_disk))) h
+
+-- each block of an open backup begins in one of its chunks
+pub nearby-told : {disk : Shape} {past : Past} {sessions : List Session} {held : List Entry} → Tells disk past sessions held
+    → AreNearby sessions held
+unfolding view
+nearby-told {disk} {past} {sessions} h = rw h.entries (all_map (λ (e : Entry). IsNearby sessions e.block) (entry_of past) (registered past)
+    (all_from_index (IsNearby sessions) (registered past) (λ i b at.
+    let there = all_get (IsBlockOf disk (length (tasks past))) (registered past) i b h.on_disk at in record {
+      small = omega (arith, there.within);
+      few = there.on.few;
+      begins = λ session found is_open.
+          let stands = (h.each b.task session found).stands in
+          let own = filter_to (λ x. x.task == b.task) (registered past) i b at (same_number b.task b.task refl) in
+          all_get (BeginsIn session.chunks) (view past b.task).blocks own.0 b
+          (stands.near (open_by (view past b.task) session stands ∙ is_open)) own.1;
+    })))

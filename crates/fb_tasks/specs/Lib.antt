@@ -1,6 +1,7 @@
 pub mod Keeping
 pub mod Taken
 pub mod Listing
+pub mod Nearby
 pub mod Standing
 pub mod Telling
 pub mod Leaving

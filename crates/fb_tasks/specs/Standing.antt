@@ -24,6 +24,7 @@ use Rattle.fb_model.specs.Segments.{is_chosen, is_busy, unchosen}
 use Rattle.fb_model.specs.Images.{is_newly_cleaned}
 use Rattle.fb_tasks.specs.declared.session.Session.{Session}
 use Rattle.fb_tasks.specs.Keeping.{is_none}
+use Rattle.fb_tasks.specs.Nearby.{BeginsIn}
 use Rattle.fb_tasks.specs.Taken.{segment_rows_found, ends_of}
 
 -- a registered block with its state
@@ -132,6 +133,7 @@ pub record Stands (view : TaskView) (session : Session) : Type 0 where
   pub ascend : is_backup session.kind ≡ true → Ascend 0 view.blocks
   pub unwanted : is_backup session.kind ≡ true → view.wants ≡ false → view.blocks ≡ []
   pub image : is_unsealed view ≡ true → HoldsImage view.work (held_at session.image)
+  pub near : is_unsealed view ≡ true → AllByRecursion (BeginsIn session.chunks) view.blocks
   pub log : is_clean session.kind ≡ true → Cleans view.work session.log
   pub unchosen : is_clean session.kind ≡ false → view.choices ≡ []
 

@@ -34,6 +34,7 @@ impl Session {
             → HasChosenUpTo map.now past (choose_in map.now past stamp.task) stamp.task stamp.instant self.new wanted.new
             rows.old rows.new) }
         ensures same { (by_calls self.new ≡ by_calls self.old) × (self.new.touched ≡ self.old.touched) }
+        ensures chunks { self.new.chunks ≡ self.old.chunks }
         ensures begun { OnErr result ((past : Past) → MayChoose map.now past stamp.task self.old wanted.old
             → HasBegunUpTo past (choose_in map.now past stamp.task) stamp.task stamp.instant wanted.old wanted.new rows.old rows.new) }
     {
@@ -73,6 +74,7 @@ impl Session {
             → HasChosenUpTo map.now past (choose_once map.now stamp.task past) stamp.task stamp.instant self.new wanted.new
             rows.old rows.new) }
         ensures same { (by_calls self.new ≡ by_calls self.old) × (self.new.touched ≡ self.old.touched) }
+        ensures chunks { self.new.chunks ≡ self.old.chunks }
         ensures begun { OnErr result ((past : Past) → MayChoose map.now past stamp.task self.old wanted.old
             → HasBegunUpTo past (choose_once map.now stamp.task past) stamp.task stamp.instant wanted.old wanted.new
             rows.old rows.new) }

@@ -45,6 +45,7 @@ impl Session {
             → Delivers disk past sessions held got self.old wanted.now
             → HasBegun rows.old (BackGot got ∷ rows_after past got) rows.new) }
         ensures touched { OnOk result (self.new.touched ≡ self.old.touched) }
+        ensures chunks { self.new.chunks ≡ self.old.chunks }
     {
         let task = got.block.task;
         let end = got.end;
@@ -60,8 +61,9 @@ impl Session {
     fn keep(&mut self, block: Block, content: &Contents) -> Result<(), NoMemory>
         requires covers { (content_at : ℕ → Content) × Gives content.now content_at block.lbn block.count }
         requires chosen { is_clean self.old.kind ≡ true → self.old.log.unfinished ≢ None }
-        ensures { OnOk result ((content_at : ℕ → Content) → Gives content.now content_at block.lbn block.count
+        ensures taken { OnOk result ((content_at : ℕ → Content) → Gives content.now content_at block.lbn block.count
             → HasTaken content_at block self.old self.new) }
+        ensures chunks { self.new.chunks ≡ self.old.chunks }
     {
         match self.kind {
             Kind::Backup => self.image.take(block, content),

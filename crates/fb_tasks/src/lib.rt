@@ -9,6 +9,7 @@
 
 mod choosing;
 mod delivering;
+mod near;
 mod session;
 mod sessions;
 mod testing;

@@ -1,9 +1,11 @@
 // One session.
-ghost use Rattle.std.specs.Prelude.{◌≡◌, ℕ, [], ◌&&◌, not, None, false, ◌+◌, ◌<◌, ◌^◌};
+ghost use Rattle.std.specs.Prelude.{◌≡◌, ℕ, [], ◌&&◌, not, None, true, false, ◌+◌, ◌<◌, ◌≤◌, ◌^◌};
 ghost use Rattle.fb_script.specs.Sessions.{is_backup};
 ghost use Rattle.fb_store.specs.Ranges.{held_at};
 ghost use Rattle.fb_tasks.specs.Keeping.{complete_by};
+ghost use Rattle.fb_tasks.specs.Nearby.{IsAmong, chunk_of};
 
+use crate::near::{Chunks, chunks_in, no_chunks};
 use fb_backup::Image;
 use fb_clean::Segments;
 use fb_script::Kind;
@@ -30,6 +32,8 @@ pub struct Session {
     pub sealed: bool,
     /// Whether it was touched since tasks last chose and were tested: these pass over the others.
     pub touched: bool,
+    /// The chunks in which the blocks of an open backup begin.
+    pub chunks: Chunks,
     /// What the delivered blocks of a backup hold.
     pub image: Image,
     /// The segments that a clean session was given.
@@ -51,6 +55,7 @@ impl Session {
         ensures terms { (result.kind ≡ kind) × (result.weight ≡ weight) × (result.block ≡ block) }
         ensures state { (result.suspended ≡ false) × (result.closed ≡ false) × (result.complete ≡ false) × (result.sealed ≡ false) }
         ensures touched { result.touched ≡ false }
+        ensures chunks { (chunk : ℕ) → IsAmong result.chunks chunk → ⊥ }
         ensures image { (lbn : ℕ) → held_at result.image lbn ≡ None }
         ensures log { result.log ≡ record { block = block; segments = []; unfinished = None; taken = [] } }
     {
@@ -63,6 +68,7 @@ impl Session {
             complete: false,
             sealed: false,
             touched: false,
+            chunks: no_chunks(),
             image: Image::new(alloc),
             log: Segments::new(alloc, block),
         }
@@ -90,5 +96,34 @@ impl Session {
             Kind::Backup => !self.sealed,
             _ => false,
         }
+    }
+
+    /// The chunks in which the blocks of a range begin that the session wants, if it is an open backup;
+    /// no other one is noted.
+    pub fn chunks_wanted(&self, first: u64, count: u64) -> Chunks
+        requires { first + count ≤ 10 ^ 12 }
+        ensures { (is_backup self.now.kind && not self.now.sealed) ≡ true → (lbn : ℕ) → first ≤ lbn → lbn < first + count
+            → IsAmong result (chunk_of lbn) }
+    {
+        if self.is_open_backup() {
+            chunks_in(first, count)
+        } else {
+            no_chunks()
+        }
+    }
+
+    /// Takes the chunks from a session that is no open backup any more.
+    pub fn take_sealed_chunks(&mut self) -> Chunks
+        ensures session { self.new ≡ record self.old { chunks = self.new.chunks } }
+        ensures taken { (is_backup self.old.kind && not self.old.sealed) ≡ false → result ≡ self.old.chunks }
+        ensures stays { (is_backup self.old.kind && not self.old.sealed) ≡ true → self.new.chunks ≡ self.old.chunks }
+        ensures others { (chunk : ℕ) → IsAmong self.new.chunks chunk → IsAmong self.old.chunks chunk × (IsAmong result chunk → ⊥) }
+    {
+        if self.is_open_backup() {
+            return no_chunks();
+        }
+        let chunks = self.chunks;
+        self.chunks = no_chunks();
+        chunks
     }
 }

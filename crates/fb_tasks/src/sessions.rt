@@ -18,11 +18,13 @@ ghost use Rattle.fb_tasks.specs.declared.session.Session.{Session};
 ghost use Rattle.fb_tasks.specs.Taken.{segment_rows_found, test_rows_found, rows_after, delivery_of, ends_of};
 ghost use Rattle.fb_tasks.specs.Standing.{HaveChosen};
 ghost use Rattle.fb_tasks.specs.Leaving.{HasBegun, entries_by, entries_chosen, OnlyTouched};
+ghost use Rattle.fb_tasks.specs.Nearby.{AreNearby};
 ghost use Rattle.fb_tasks.specs.Writing.{left_by_write, left_in};
 ghost use Rattle.fb_tasks.specs.Telling.{Tells, MayTake, MaySettle, MayDeliver, IsUpToDate, IsCall, tested_at};
 
+use crate::near::{chunks_near, forget_near, next_near, note_near};
 use crate::session::{Session, Stamp};
-use crate::touched::{forget, next_noted, next_touched, note, note_touch};
+use crate::touched::{forget, next_touched, note};
 use crate::wanting::want_range;
 use fb_rows::{BackRow, BackRows, DeliveryRow, TaskRow};
 use fb_script::{Action, Call, Kind, Live};
@@ -38,17 +40,19 @@ use std::marker::Model;
 /// What a call costs: a delivery or a call of a script, the work for its own task; to choose and test,
 /// the work for each touched task. A task is touched by a delivery, a want, an abort, a new segment and
 /// its close, until tasks next choose and are tested (one whose call ran out of memory may stay touched
-/// for longer). A write looks at the tasks that ever had a block near its sectors, or at the open backups
-/// and touched tasks, whichever are fewer. Each of them costs a search for each chunk of 2,048 LBNs that
-/// the write touches, and one more. A session to which nothing happens costs nothing.
+/// for longer). A session to which nothing happens costs nothing.
+///
+/// A write looks at the open backups alone that wanted a block near its sectors. Each of them costs a
+/// search for each chunk of 2,048 LBNs that the write touches, and one more. A want of a backup notes
+/// each chunk of its range, and when tasks are next tested after the seal, these notes are taken out.
 #[derive(Drop)]
 pub struct Sessions {
     alloc: Global,
     sessions: Vec<Session>,
     // The tasks that were touched since tasks last chose and were tested.
     listed_touched: BTreeSet<u32>,
-    // The tasks that a write checks: these and the open backups.
-    checked_by_writes: BTreeSet<u32>,
+    // The open backups by the chunks in which their blocks begin: a write looks at these.
+    near: BTreeSet<(u64, u32)>,
 }
 
 impl Model for Sessions {
@@ -60,7 +64,7 @@ impl Model for Sessions {
 
     ghost view = { λ s. s.sessions.items };
 
-    ghost invariant = { λ s. AreListed s.sessions.items s.listed_touched s.checked_by_writes };
+    ghost invariant = { λ s. AreListed s.sessions.items s.listed_touched s.near };
 }
 
 impl Sessions {
@@ -73,7 +77,7 @@ impl Sessions {
             alloc,
             sessions: Vec::new(alloc),
             listed_touched: BTreeSet::new(alloc),
-            checked_by_writes: BTreeSet::new(alloc),
+            near: BTreeSet::new(alloc),
         }
     }
 
@@ -231,10 +235,7 @@ impl Sessions {
             → MayTake disk past self.old held call → Tells disk (called call [] ∷ past) self.new held) }
         ensures err { OnErr result (self.new ≡ self.old) }
     {
-        let task = self.sessions.len() as u32;
         let session = Session::new(self.alloc, kind, weight, block);
-        self.sessions.reserve(1)?;
-        note(&mut self.checked_by_writes, task, session.is_open_backup())?;
         self.sessions.push(session)?;
         Ok(())
     }
@@ -259,15 +260,15 @@ impl Sessions {
     {
         // A disk has at most 10^12 sectors.
         let _sectors = map.count();
-        want_range(
-            map,
-            wanted,
-            &self.sessions[task as usize],
-            task,
-            first,
-            count,
-        )?;
-        self.touch(task)
+        let session = &self.sessions[task as usize];
+        let chunks = session.chunks_wanted(first, count);
+        note_near(&mut self.near, task, chunks)?;
+        want_range(map, wanted, session, task, first, count)?;
+        note(&mut self.listed_touched, task)?;
+        let wanting = &mut self.sessions[task as usize];
+        wanting.touched = true;
+        wanting.chunks = chunks;
+        Ok(())
     }
 
     // Aborts the task's blocks that share a sector with the range.
@@ -341,7 +342,7 @@ impl Sessions {
         // A disk has at most 10^12 sectors.
         let _sectors = map.count();
         // Not by `touch`: if the segment can't be added, the session has to stay as it was.
-        note_touch(&mut self.listed_touched, &mut self.checked_by_writes, task)?;
+        note(&mut self.listed_touched, task)?;
         let cleaner = &mut self.sessions[task as usize];
         cleaner.log.add(first, count, age, live)?;
         cleaner.touched = true;
@@ -355,7 +356,7 @@ impl Sessions {
             → self.new ≡ set self.old task (record session { touched = true })) }
         ensures err { OnErr result (self.new ≡ self.old) }
     {
-        note_touch(&mut self.listed_touched, &mut self.checked_by_writes, task)?;
+        note(&mut self.listed_touched, task)?;
         self.sessions[task as usize].touched = true;
         Ok(())
     }
@@ -371,20 +372,17 @@ impl Sessions {
         }
     }
 
-    // Wants blocks of open backups again that share a sector with the range. Each round passes over a
-    // listed task and over one with a block near the range, so there are no more rounds than of either.
+    // Wants blocks of open backups again that share a sector with the range.
     fn rewant_near(&self, wanted: &mut Wanted, first: u64, count: u64)
+        requires { AreNearby self.now wanted.old }
         ensures { wanted.new ≡ map (left_by_write self.now first count) wanted.old }
     {
+        let chunks = chunks_near(first, count);
         let opened = self.sessions.len() as u32;
-        let mut from = 0;
-        while let Some(listed) = next_noted(&self.checked_by_writes, from) {
-            let task = wanted.next_task_near(first, count, listed, opened);
-            if task == opened {
-                return;
-            }
+        let mut task = next_near(&self.near, chunks, 0, opened);
+        while task < opened {
             self.rewant(wanted, task, first, count);
-            from = task + 1;
+            task = next_near(&self.near, chunks, task + 1, opened);
         }
     }
 
@@ -437,9 +435,9 @@ impl Sessions {
             let session = &mut self.sessions[task as usize];
             session.test(self.alloc, wanted, task, now, rows)?;
             session.touched = false;
-            let is_open_backup = session.is_open_backup();
-            forget(&mut self.listed_touched, task, false);
-            forget(&mut self.checked_by_writes, task, is_open_backup);
+            let chunks = session.take_sealed_chunks();
+            forget(&mut self.listed_touched, task);
+            forget_near(&mut self.near, task, chunks);
             from = task + 1;
         }
         Ok(())

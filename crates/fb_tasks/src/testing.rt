@@ -40,6 +40,7 @@ impl Session {
             × (rows.new ≡ rows.old ++ segment_rows_found past now task)) }
         ensures err { OnErr result (rows.new ≡ rows.old) }
         ensures touched { self.new.touched ≡ self.old.touched }
+        ensures chunks { self.new.chunks ≡ self.old.chunks }
     {
         let counts = wanted.counts(task);
         if counts.delivered != counts.registered {
@@ -110,6 +111,7 @@ impl Session {
             → HasBegun rows.old (ends_of past now task) rows.new) }
         ensures grown { HasGrown rows.old rows.new }
         ensures same { (by_calls self.new ≡ by_calls self.old) × (self.new.touched ≡ self.old.touched) }
+        ensures chunks { self.new.chunks ≡ self.old.chunks }
     {
         let complete = self.is_complete(wanted.counts(task));
         let stamp = Stamp { task, instant: now };

@@ -1,63 +1,41 @@
-// The tasks that were touched since tasks last chose and were tested, and those that a write checks: these and the open
-// backups. Of the latter alone a write makes blocks wanted again.
+// The tasks that were touched since tasks last chose and were tested.
 ghost use Rattle.std.specs.Prelude.{◌≡◌, ◌⊎◌, ℕ, ◌<◌, ◌≤◌, true, false, Some, slice_get, IfSome, IfNone, OnOk, OnErr};
 ghost use Rattle.std.specs.BTreeSet.{BTreeSet as Set, contains};
 ghost use Rattle.std.specs.Ordering.{nat_cmp};
 ghost use Rattle.fb_tasks.specs.declared.session.Session.{Session};
-ghost use Rattle.fb_tasks.specs.Listing.{AreListed, IsNoted};
+ghost use Rattle.fb_tasks.specs.Listing.{AreListed};
 
 use crate::session::Session;
 use fb_units::NoMemory;
 use std::collections::BTreeSet;
 
-/// Adds a task to a list if `is_noted`.
+/// Adds a task to a list.
 ///
 /// The only error is out of memory, after which nothing has changed.
-pub fn note(list: &mut BTreeSet<u32>, task: u32, is_noted: bool) -> Result<(), NoMemory>
+pub fn note(list: &mut BTreeSet<u32>, task: u32) -> Result<(), NoMemory>
     ensures stay { (k : ℕ) → contains nat_cmp list.old k ≡ true → contains nat_cmp list.new k ≡ true }
     ensures only { (k : ℕ) → contains nat_cmp list.new k ≡ true → (k ≡ task) ⊎ (contains nat_cmp list.old k ≡ true) }
-    ensures noted { OnOk result (is_noted ≡ true → contains nat_cmp list.new task ≡ true) }
+    ensures noted { OnOk result (contains nat_cmp list.new task ≡ true) }
     ensures err { OnErr result ((k : ℕ) → contains nat_cmp list.new k ≡ true → contains nat_cmp list.old k ≡ true) }
 {
-    if is_noted {
-        list.insert(task)?;
-    }
+    list.insert(task)?;
     Ok(())
 }
 
-/// Takes a task from a list, unless it is to stay.
-pub fn forget(list: &mut BTreeSet<u32>, task: u32, stays: bool)
+/// Takes a task from a list.
+pub fn forget(list: &mut BTreeSet<u32>, task: u32)
     ensures others { (k : ℕ) → contains nat_cmp list.old k ≡ true → (k ≡ task) ⊎ (contains nat_cmp list.new k ≡ true) }
     ensures only { (k : ℕ) → contains nat_cmp list.new k ≡ true → contains nat_cmp list.old k ≡ true }
-    ensures kept { stays ≡ true → list.new ≡ list.old }
-    ensures gone { stays ≡ false → contains nat_cmp list.new task ≡ false }
+    ensures gone { contains nat_cmp list.new task ≡ false }
 {
-    if !stays {
-        list.remove(&task);
-    }
-}
-
-/// Notes that a task was touched, and that a write checks it.
-///
-/// The only error is out of memory, after which all that was noted before is still there.
-pub fn note_touch(
-    listed_touched: &mut BTreeSet<u32>,
-    checked_by_writes: &mut BTreeSet<u32>,
-    task: u32,
-) -> Result<(), NoMemory>
-    ensures stay { IsNoted task listed_touched.old checked_by_writes.old listed_touched.new checked_by_writes.new }
-    ensures noted { OnOk result (contains nat_cmp listed_touched.new task ≡ true) }
-    ensures checked_noted { OnOk result (contains nat_cmp checked_by_writes.new task ≡ true) }
-{
-    note(checked_by_writes, task, true)?;
-    note(listed_touched, task, true)
+    list.remove(&task);
 }
 
 /// The first task from `from` on that was touched since tasks last chose and were tested.
 ///
 /// The list may also name a task that a call was about to touch when it ran out of memory.
 pub fn next_touched(listed: &BTreeSet<u32>, sessions: &[Session], from: u32) -> Option<u32>
-    requires { (checked_by_writes : Set ℕ) × AreListed sessions.now listed.now checked_by_writes }
+    requires { (near : Set (ℕ × ℕ)) × AreListed sessions.now listed.now near }
     ensures found { IfSome result (λ task. contains nat_cmp listed.now task ≡ true) }
     ensures touched { IfSome result (λ task. (session : Session) → slice_get sessions.now task ≡ Some session → session.touched ≡ true) }
     ensures from { IfSome result (λ task. from ≤ task) }
@@ -76,8 +54,8 @@ pub fn next_touched(listed: &BTreeSet<u32>, sessions: &[Session], from: u32) -> 
     None
 }
 
-/// The first task of a list from `from` on.
-pub fn next_noted(list: &BTreeSet<u32>, from: u32) -> Option<u32>
+// The first task of a list from `from` on.
+fn next_noted(list: &BTreeSet<u32>, from: u32) -> Option<u32>
     ensures found { IfSome result (λ task. contains nat_cmp list.now task ≡ true) }
     ensures from { IfSome result (λ task. from ≤ task) }
     ensures first { IfSome result (λ task. (k : ℕ) → from ≤ k → k < task → contains nat_cmp list.now k ≡ false) }

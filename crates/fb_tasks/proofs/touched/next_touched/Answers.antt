@@ -3,7 +3,7 @@ use Rattle.fb_tasks.proofs.Words.{contains, nat_cmp, BTreeSet, cases_Bool, cases
 use Rattle.fb_tasks.proofs.touched.next_touched.Goals as goal
 
 -- no session before a number was touched, if none before this one was and none from there on is listed
-none-before : {sessions : List Session} {listed checked : BTreeSet ℕ} (h : AreListed sessions listed checked) (from this next : ℕ)
+none-before : {sessions : List Session} {listed : BTreeSet ℕ} {near : BTreeSet (ℕ × ℕ)} (h : AreListed sessions listed near) (from this next : ℕ)
     → ((k : ℕ) (session : Session) → from ≤ k → k < this → slice_get sessions k ≡ Some session → session.touched ≡ false)
     → ((k : ℕ) → this ≤ k → k < next → contains nat_cmp listed k ≡ false)
     → (k : ℕ) (session : Session) → from ≤ k → k < next → slice_get sessions k ≡ Some session → session.touched ≡ false

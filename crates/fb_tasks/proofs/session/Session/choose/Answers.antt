@@ -23,6 +23,7 @@ loop-choice-init c =
     record {
       cleans = (may_be.0, not-true c.args.self.now.closed may_be.1);
       same = (refl, refl);
+      chunks = refl;
       chosen = λ past may. still-chosen refl may;
     }
 
@@ -33,6 +34,7 @@ loop-choice-preserved c =
     record {
       cleans = (ap (λ t. is_clean t.0) one.same.0 ∙ inv.cleans.0, ap (λ t. t.4) one.same.0 ∙ inv.cleans.1);
       same = same_on inv.same one.same;
+      chunks = one.chunks ∙ inv.chunks;
       chosen = λ past may. rw (up_to_split c.loop-choice._choice 1 c.args.map.now c.args.stamp.task past)
           (chosen-on (inv.chosen past may) (c.in_ok-choose_one.ensures.chosen _ (inv.chosen past may).may));
     }
@@ -53,6 +55,7 @@ returns-then-not-branch c =
           ) (chosen-on here (c.in_ok-choose_one.ensures.chosen _ here.may));
       same = same_on inv.same one.same;
       begun = tt;
+      chunks = one.chunks ∙ inv.chunks;
     }
 
 pub returns-clause-chosen : goal.returns-clause-chosen
@@ -70,3 +73,6 @@ returns-in_err-choose_one-clause-begun c = on_err c.from_residual.result (λ pas
     let chosen = c.loop-choice.invariant.chosen past may in
     begun-at may c.loop-choice._choice c.len-choice-end.result (sym c.may_choose.ensures ∙ c.if-not-may_choose.false)
     c.len-choice-end.ensures (omega arith) chosen (c.in_err-choose_one.ensures.begun _ chosen.may))
+
+pub returns-in_err-choose_one-clause-chunks : goal.returns-in_err-choose_one-clause-chunks
+returns-in_err-choose_one-clause-chunks c = c.choose_one.ensures.chunks ∙ c.loop-choice.invariant.chunks

@@ -1,7 +1,7 @@
 use Rattle.fb_tasks.proofs.Words.{◌<◌, length, sym, subst, arith, length-set, MaySettle, OnlyTouched, on_err}
 use Rattle.fb_tasks.proofs.Leaving.{touched_none, touched_set}
 use Rattle.fb_tasks.proofs.BegunChoices.{all-begun, blocks-at, rows-at}
-use Rattle.fb_tasks.proofs.Listed.{listed_set, listed_there, listed_within}
+use Rattle.fb_tasks.proofs.Listed.{listed_set, listed_there}
 use Rattle.fb_tasks.proofs.AllChoices.{partly-start, partly-may, partly-more, partly-to, all-chosen, past_at}
 use Rattle.fb_tasks.proofs.sessions.Sessions.choose_touched.Goals as goal
 
@@ -15,7 +15,7 @@ loop-task-init c = record {
 }
 
 pub next_touched-requires : goal.next_touched-requires
-next_touched-requires c = (c.loop-task.self-inside.checked_by_writes, rw c.deref.ensures.value c.loop-task.invariant.kept)
+next_touched-requires c = (c.loop-task.self-inside.near, rw c.deref.ensures.value c.loop-task.invariant.kept)
 
 pub choose-requires : goal.choose-requires
 choose-requires c =
@@ -23,7 +23,7 @@ choose-requires c =
     let n = c.in-Some.task in
     let there = listed_there inv.kept n c.index_mut.result.now c.in-Some.ensures.found c.index_mut.ensures.value in
     let to = partly-to c.loop-task.from n c.in-Some.ensures.from
-    (omega (arith, listed_within inv.kept n c.in-Some.ensures.found))
+    (omega (arith, inv.kept.within n c.in-Some.ensures.found))
     (rw c.deref.ensures.value at c.in-Some.ensures.first) (inv.partly c.requires.0 c.requires.1) in
     (past_at c.args.map.now c.requires.0 n, partly-may there to)
 
@@ -33,11 +33,11 @@ loop-task-preserved c =
     let items = c.loop-task.self-inside.sessions.items in
     let n = c.in-Some.task in
     let session = c.index_mut.result.now in
-    let within : n < length items = listed_within inv.kept n c.in-Some.ensures.found in
+    let within : n < length items = inv.kept.within n c.in-Some.ensures.found in
     let there = listed_there inv.kept n session c.in-Some.ensures.found c.index_mut.ensures.value in
     let touched = (rw c.deref.ensures.value at c.in-Some.ensures.touched) session there in
     record {
-      kept = listed_set inv.kept n c.choose.new.self c.in-Some.ensures.found;
+      kept = listed_set inv.kept n session c.choose.new.self there c.in-Some.ensures.found c.choose.ensures.chunks;
       within = omega (arith, within, length-set items n c.choose.new.self);
       partly = λ past h.
           let to = partly-to c.loop-task.from n c.in-Some.ensures.from (omega (arith, within))
@@ -60,7 +60,7 @@ returns-in_err-choose-clause-blocks c = λ past h.
     let inv = c.loop-task.invariant in
     let n = c.in-Some.task in
     let there = listed_there inv.kept n c.index_mut.result.now c.in-Some.ensures.found c.index_mut.ensures.value in
-    let to = partly-to c.loop-task.from n c.in-Some.ensures.from (omega (arith, listed_within inv.kept n c.in-Some.ensures.found))
+    let to = partly-to c.loop-task.from n c.in-Some.ensures.from (omega (arith, inv.kept.within n c.in-Some.ensures.found))
     (rw c.deref.ensures.value at c.in-Some.ensures.first) (inv.partly past h) in
     blocks-at h there to (c.in_err-choose.ensures.begun _ (partly-may there to))
 
@@ -69,7 +69,7 @@ returns-in_err-choose-clause-err_rows c = on_err c.from_residual.result (λ past
     let inv = c.loop-task.invariant in
     let n = c.in-Some.task in
     let there = listed_there inv.kept n c.index_mut.result.now c.in-Some.ensures.found c.index_mut.ensures.value in
-    let to = partly-to c.loop-task.from n c.in-Some.ensures.from (omega (arith, listed_within inv.kept n c.in-Some.ensures.found))
+    let to = partly-to c.loop-task.from n c.in-Some.ensures.from (omega (arith, inv.kept.within n c.in-Some.ensures.found))
     (rw c.deref.ensures.value at c.in-Some.ensures.first) (inv.partly past h) in
     rows-at h there to (c.in_err-choose.ensures.begun _ (partly-may there to)))
 
@@ -83,19 +83,22 @@ returns-in_err-choose-clause-stay_sessions c =
 pub index_mut-requires : goal.index_mut-requires
 index_mut-requires c =
     let kept = c.loop-task.invariant.kept in
-    omega (arith, listed_within kept c.in-Some.task c.in-Some.ensures.found, c.loop-task.self-inside.sessions.ok.0)
+    omega (arith, kept.within c.in-Some.task c.in-Some.ensures.found, c.loop-task.self-inside.sessions.ok.0)
 
 pub overflow_add-from : goal.overflow_add-from
 overflow_add-from c =
-    let kept = c.loop-task.invariant.kept in omega (arith, listed_within kept c.in-Some.task c.in-Some.ensures.found, kept.room)
+    let kept = c.loop-task.invariant.kept in omega (arith, kept.within c.in-Some.task c.in-Some.ensures.found, kept.room)
 
 pub loop-task-smaller : goal.loop-task-smaller
 loop-task-smaller c = omega (
   arith,
-  listed_within c.loop-task.invariant.kept c.in-Some.task c.in-Some.ensures.found,
+  c.loop-task.invariant.kept.within c.in-Some.task c.in-Some.ensures.found,
   c.in-Some.ensures.from,
   length-set c.loop-task.self-inside.sessions.items c.in-Some.task c.choose.new.self,
 )
 
 pub invariant_of-self : goal.invariant_of-self
-invariant_of-self c = listed_set c.loop-task.invariant.kept c.in-Some.task c.choose.new.self c.in-Some.ensures.found
+invariant_of-self c =
+    let there = listed_there c.loop-task.invariant.kept c.in-Some.task c.index_mut.result.now c.in-Some.ensures.found c.index_mut.ensures.value in
+    listed_set c.loop-task.invariant.kept c.in-Some.task c.index_mut.result.now c.choose.new.self there c.in-Some.ensures.found
+    c.choose.ensures.chunks

@@ -83,3 +83,4 @@ invariant_of-self c =
     omega (arith, opened, touched-length c.args.self.now opened c.in_ok-touch.ensures.ok, ap length c.self.view_is) in
     listed_touched-set c.self.invariant c.args.got.block.task session c.take_delivery.new.self within c.index_mut.ensures.value
     (touched-now c.args.self.now opened c.in_ok-touch.ensures.ok session (rw c.self.view_is at c.index_mut.ensures.value))
+    c.take_delivery.ensures.chunks

@@ -1,5 +1,5 @@
 use Rattle.fb_tasks.proofs.Words.{◌<◌, Some, length, ap, sym, ◌∙◌, subst, true, set, slice_get, slice_get-get_or, Session, same_Some}
-use Rattle.fb_tasks.proofs.Words.{arith}
+use Rattle.fb_tasks.proofs.Words.{arith, refl}
 use Rattle.fb_tasks.proofs.Listed.{listed_more, listed_noted}
 use Rattle.fb_tasks.proofs.sessions.Sessions.touch.Goals as goal
 
@@ -17,8 +17,8 @@ pub index_mut-requires : goal.index_mut-requires
 index_mut-requires c = omega (arith, c.requires, ap length c.self.view_is, c.self.inside.sessions.ok.0)
 
 pub invariant_of-self : goal.invariant_of-self
-invariant_of-self c = listed_more c.self.invariant (rw c.self.view_is c.requires) c.note_touch.ensures.stay
+invariant_of-self c = listed_more c.self.invariant (rw c.self.view_is c.requires) c.note.ensures.stay c.note.ensures.only
 
 pub invariant_of-self-2 : goal.invariant_of-self-2
-invariant_of-self-2 c = listed_noted c.self.invariant (rw c.self.view_is c.requires) c.note_touch.ensures.stay
-    c.in_ok-note_touch.ensures.noted c.in_ok-note_touch.ensures.checked_noted _
+invariant_of-self-2 c = listed_noted c.self.invariant (rw c.self.view_is c.requires) c.note.ensures.stay c.note.ensures.only
+    c.in_ok-note.ensures.noted c.index_mut.result.now _ c.index_mut.ensures.value refl
