@@ -1,6 +1,7 @@
 -- Pairs of a chunk and a task.
 use Rattle.std.specs.BTreeMap.{is_at}
-use Rattle.fb_tasks.proofs.Words.{◌≡◌, ℕ, Bool, if◌then◌else◌, true, false, refl, arith, nat_tests, pair_cmp}
+use Rattle.std.specs.Ordering.{is_gt}
+use Rattle.fb_tasks.proofs.Words.{◌≡◌, ◌≤◌, ℕ, Bool, if◌then◌else◌, true, false, refl, arith, nat_tests, pair_cmp}
 
 pub same_pair : (a b : ℕ × ℕ) → is_at (pair_cmp a) b ≡ true → b ≡ a
 same_pair a b here =
@@ -10,6 +11,16 @@ same_pair a b here =
 
 pub at_itself : (a : ℕ × ℕ) → is_at (pair_cmp a) a ≡ true
 at_itself a = grind (arith, nat_tests)
+
+pub from_pair : (chunk from j : ℕ) → from ≤ j → is_gt (pair_cmp (chunk, from) (chunk, j)) ≡ false
+from_pair chunk from j h = grind (arith, nat_tests)
+
+pub seconds_rise : (chunk other i j : ℕ) → is_gt (pair_cmp (other, i) (chunk, j)) ≡ false → other ≡ chunk → i ≤ j
+seconds_rise chunk other i j h same = grind (arith, nat_tests)
+
+pub first_stays : (chunk from other i j : ℕ) → is_gt (pair_cmp (chunk, from) (other, i)) ≡ false
+    → is_gt (pair_cmp (other, i) (chunk, j)) ≡ false → other ≡ chunk
+first_stays chunk from other i j up down = grind (arith, nat_tests)
 
 -- what isn't there isn't there after something was taken out
 pub stays_out : (gone there : Bool) → there ≡ false → (if gone then false else there) ≡ false

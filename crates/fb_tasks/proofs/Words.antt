@@ -53,7 +53,6 @@ pub use Rattle.fb_script.specs.declared.call.Call.{Call}
 pub use Rattle.fb_script.specs.declared.call.Kind.{Kind}
 pub use Rattle.fb_script.specs.declared.call.Kind.TheVariants.{Backup, Clean, Plain}
 pub use Rattle.fb_wanted.specs.Counting.{counts_of, of_task}
-pub use Rattle.fb_wanted.specs.LookUp.{pair_cmp}
 pub use Rattle.fb_wanted.specs.Numbering.{blocks_of}
 pub use Rattle.fb_wanted.specs.States.{after, entry_after, is_aborted, is_block, is_delivered, is_open, is_suspended, is_wanted, shares}
 pub use Rattle.fb_wanted.specs.States.{state_after}
@@ -93,7 +92,7 @@ pub use Rattle.fb_tasks.specs.Keeping.{new_entries, without_aborted}
 pub use Rattle.fb_tasks.specs.Leaving.{HasBegun, HasBegunUpTo, HasGrown, OnlyTouched, by_calls, entries_after, entries_by}
 pub use Rattle.fb_tasks.specs.Leaving.{entries_chosen}
 pub use Rattle.fb_tasks.specs.Listing.{AreListed}
-pub use Rattle.fb_tasks.specs.Nearby.{AreNearby, BeginsIn, IsAmong, IsNearby, chunk_of}
+pub use Rattle.fb_tasks.specs.Nearby.{AreNearby, BeginsIn, IsAmong, IsNearby, chunk_of, pair_cmp}
 pub use Rattle.fb_tasks.specs.declared.near.Chunks.{Chunks}
 pub use Rattle.fb_tasks.specs.Script.{IsCalled}
 pub use Rattle.fb_tasks.specs.Standing.{AreNumbered, AreReported, AreTestRowsOf, Ascend, Cleans, CleansBy, HasChosen, HasChosenUpTo}

@@ -3,9 +3,8 @@
 use Rattle.std.specs.Prelude.{◌≡◌, ◌<◌, ◌^◌, ℕ, List, length, true, Some, slice_get}
 use Rattle.std.specs.BTreeSet.{BTreeSet, contains}
 use Rattle.std.specs.Ordering.{nat_cmp}
-use Rattle.fb_wanted.specs.LookUp.{pair_cmp}
 use Rattle.fb_tasks.specs.declared.session.Session.{Session}
-use Rattle.fb_tasks.specs.Nearby.{IsAmong}
+use Rattle.fb_tasks.specs.Nearby.{IsAmong, pair_cmp}
 
 -- each touched session stands on the list, and nothing but sessions; and each session is noted in each of its chunks
 pub record AreListed (sessions : List Session) (listed_touched : BTreeSet ℕ) (near : BTreeSet (ℕ × ℕ)) : Type 0 where

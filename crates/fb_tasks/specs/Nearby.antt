@@ -1,6 +1,8 @@
 -- Which open backups a write looks at. Contracts of inner functions cite it.
 use Rattle.std.specs.Prelude.{◌≡◌, ◌<◌, ◌≤◌, ◌^◌, ◌/◌, ◌&&◌, not, ℕ, List, true, Some, slice_get}
 use Rattle.std.specs.List.{AllByRecursion}
+use Rattle.std.specs.Ordering.{nat_cmp, ordering_then}
+use Rattle.std.specs.declared.cmp.Ordering.{Ordering}
 use Rattle.fb_script.specs.Sessions.{is_backup}
 use Rattle.fb_wanted.specs.declared.block.Block.{Block}
 use Rattle.fb_wanted.specs.declared.block.Entry.{Entry}
@@ -10,6 +12,10 @@ use Rattle.fb_tasks.specs.declared.session.Session.{Session}
 -- the chunk of an LBN: a chunk has 2,048 neighbouring LBNs
 abbrev pub chunk_of : ℕ → ℕ
 chunk_of lbn = lbn / 2048
+
+-- notes are ordered by chunk, and then by task
+abbrev pub pair_cmp : ℕ × ℕ → ℕ × ℕ → Ordering
+pair_cmp a b = ordering_then (nat_cmp a.0 b.0) (nat_cmp a.1 b.1)
 
 -- the chunk is one of these
 abbrev pub IsAmong : Chunks → ℕ → Type 0

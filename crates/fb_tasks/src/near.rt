@@ -2,9 +2,8 @@
 ghost use Rattle.std.specs.Prelude.{◌≡◌, ◌⊎◌, ◌<◌, ◌≤◌, ◌+◌, ◌^◌, ℕ, true, false, IfSome, IfNone, OnOk};
 ghost use Rattle.std.specs.BTreeSet.{contains};
 ghost use Rattle.fb_wanted.specs.declared.block.Block.{Block};
-ghost use Rattle.fb_wanted.specs.LookUp.{pair_cmp};
 ghost use Rattle.fb_wanted.specs.States.{shares};
-ghost use Rattle.fb_tasks.specs.Nearby.{IsAmong, BeginsIn, chunk_of};
+ghost use Rattle.fb_tasks.specs.Nearby.{IsAmong, BeginsIn, chunk_of, pair_cmp};
 
 use fb_units::NoMemory;
 use std::collections::BTreeSet;

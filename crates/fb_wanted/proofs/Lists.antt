@@ -1,13 +1,12 @@
 -- Lists of lists.
-use Rattle.std.proofs.Common.{◌≡◌, ℕ, ◌≤◌, inl, inr, ◌==◌, List, [], ◌∷◌, true, false, get_or, refl, ap, ◌∙◌, arith}
-use Rattle.std.specs.Ordering.{is_gt}
+use Rattle.std.proofs.Common.{◌≡◌, ℕ, inl, inr, ◌==◌, List, [], ◌∷◌, true, get_or, refl, ap, ◌∙◌, arith}
 use Rattle.std.proofs.lemmas.Bool.{cases_Bool}
 use Rattle.std.proofs.lemmas.Bool.Decides.{nat_tests}
 use Rattle.fb_wanted.specs.declared.block.Counts.{Counts}
 use Rattle.fb_wanted.specs.declared.block.Entry.{Entry}
 use Rattle.fb_wanted.specs.declared.tasks.OfTask.{OfTask}
 use Rattle.fb_wanted.specs.Counting.{counts_of, no_counts}
-use Rattle.fb_wanted.specs.LookUp.{IsTaskChanged, pair_cmp, no_blocks, joined, counted_anew, grown_task}
+use Rattle.fb_wanted.specs.LookUp.{IsTaskChanged, no_blocks, joined, counted_anew, grown_task}
 
 -- if the index that was added last to a task is removed again, all tasks are as before
 pub taken_back : (old one two : List OfTask) (n index : ℕ)
@@ -34,13 +33,3 @@ joined_counted old one two index e lost gained none more added counted k = elim 
       ∙ (ap (λ x. counted_anew x gained blocks) none ∙ ap (λ x. counted_anew no_counts x blocks) more))
   | inr other ↦ counted k ∙ rw other (added k ∙ rw other refl)
 ]
-
-pub from_pair : (task from j : ℕ) → from ≤ j → is_gt (pair_cmp (task, from) (task, j)) ≡ false
-from_pair task from j h = grind (arith, nat_tests)
-
-pub seconds_rise : (task other i j : ℕ) → is_gt (pair_cmp (other, i) (task, j)) ≡ false → other ≡ task → i ≤ j
-seconds_rise task other i j h same = grind (arith, nat_tests)
-
-pub first_stays : (task from other i j : ℕ) → is_gt (pair_cmp (task, from) (other, i)) ≡ false
-    → is_gt (pair_cmp (other, i) (task, j)) ≡ false → other ≡ task
-first_stays task from other i j up down = grind (arith, nat_tests)

@@ -158,10 +158,6 @@ pub record IsLookUp (entries : List Entry) (tasks : List OfTask) (tracks : List 
 abbrev pub lbns : ℕ → List Entry → List ℕ
 lbns task entries = map (λ entry. entry.block.lbn) (filter (is_of_task task) entries)
 
--- pairs are ordered by their first numbers, and then by the second ones
-abbrev pub pair_cmp : ℕ × ℕ → ℕ × ℕ → Ordering
-pair_cmp a b = ordering_then (nat_cmp a.0 b.0) (nat_cmp a.1 b.1)
-
 -- the region of an LBN; a region has 512 neighbouring LBNs
 abbrev pub region_of : ℕ → ℕ
 region_of lbn = lbn / 512

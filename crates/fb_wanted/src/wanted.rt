@@ -1,8 +1,7 @@
 // The registered blocks, in order of registration, with look-ups by task, by track, by cylinder, by
-// band of cylinders, by chunk and by region of LBNs.
+// band of cylinders and by region of LBNs.
 ghost use Rattle.std.specs.Prelude.{◌≡◌, List, suc, Bool, true, false, ◌+◌, ◌-◌, ◌<◌, ◌≤◌, ℕ, [], ◌∷◌, ◌++◌, ◌*◌, ◌/◌, length, filter, map};
 ghost use Rattle.std.specs.Prelude.{OnOk, OnErr, IfSome, IfNone, Some, slice_get, get_or, ◌==◌, if◌then◌else◌};
-ghost use Rattle.std.specs.BTreeSet.{contains};
 ghost use Rattle.fb_wanted.specs.declared.block.Block.{Block};
 ghost use Rattle.fb_wanted.specs.declared.block.Entry.{Entry};
 ghost use Rattle.fb_wanted.specs.States.{after, shares, entry_after, is_abortable, is_wanted, wanted_unless, on_track, is_block};
@@ -10,9 +9,8 @@ ghost use Rattle.fb_wanted.specs.Numbering.{AreInOrder, blocks_of, registered_co
 ghost use Rattle.fb_wanted.specs.Counting.{counts_of, sum_of, Fit};
 ghost use Rattle.fb_wanted.specs.Tracks.{band_of, wanted_weight, IsNextRegistered, NoneIsRegistered};
 ghost use Rattle.fb_wanted.specs.Depth.{depth_at, no_depth};
-ghost use Rattle.fb_wanted.specs.Near.{near_of, SharesNone};
 ghost use Rattle.fb_wanted.specs.LookUp.{indexes_of, is_of_task, lbns, region_of, AreChanged, IsStable, IsWithin};
-ghost use Rattle.fb_wanted.specs.LookUp.{with_state, change_nth, track_at, grown, no_blocks, grown_task, pair_cmp};
+ghost use Rattle.fb_wanted.specs.LookUp.{with_state, change_nth, track_at, grown, no_blocks, grown_task};
 ghost use Rattle.fb_wanted.specs.LookUp.{IsChanged, IsTaskChanged};
 ghost use Rattle.fb_units.specs.declared.types.Track.{Track};
 ghost use Rattle.fb_units.specs.Tracks.{same_track};
@@ -23,9 +21,7 @@ use crate::counting::{counts_of, no_counts};
 use crate::depths::Depths;
 use crate::greatest::{Greatest, update_greatest};
 use crate::groups::{Groups, next_group};
-use crate::near::{chunk_of, next_near};
 use crate::next::next_track;
-use crate::notes::note;
 use crate::offers::reoffer;
 use crate::streaks::{Streak, forget_streak, is_behind, next_streak, note_streak, region_of};
 use crate::tasks::{OfTask, add_index, recount, take_index_back};
@@ -44,8 +40,7 @@ use std::marker::Model;
 /// Costs: to register, to deliver or to look up a block, to look up the blocks of a track, the
 /// counts of a task and the bounds of a band take constant time. Besides, to register a block takes
 /// logarithmic time if it is the first of its task or the one before it in its task begins in
-/// another region of 512 LBNs; and likewise if the block registered before it is another task's or
-/// begins in another chunk of 2,048 LBNs: a note is kept for each of these.
+/// another region of 512 LBNs: a note is kept for each of these.
 ///
 /// An abort, a suspension and its end concern the blocks that are neither delivered nor aborted, and a want
 /// again those that are delivered: where the task has no such block, they take constant time. Else to
@@ -55,8 +50,7 @@ use std::marker::Model;
 /// the range: they take logarithmic time for each streak of the task's blocks, which were registered one
 /// after another and begin in one of these regions, and constant time for each group that the streak
 /// touches and for each of its blocks in the groups that have such a block. A block whose state stays as it
-/// is is read and no more. The next task near a range is found in logarithmic time for each chunk that the
-/// range touches and for the one before them.
+/// is is read and no more.
 ///
 /// When the heaviest track of a cylinder loses weight, each track of that cylinder is looked at, and
 /// likewise each cylinder of a band when its heaviest one does, and each of the 64 bands that are a
@@ -77,7 +71,6 @@ pub struct Wanted {
     offer_indexes: Vec<u32>,
     // No block has more sectors.
     longest: u32,
-    near: BTreeSet<(u32, u32)>,
     greatest: Greatest,
     depths: Depths,
 }
@@ -87,7 +80,6 @@ impl Model for Wanted {
     ghost use Rattle.fb_wanted.specs.declared.block.Entry.{Entry};
     ghost use Rattle.fb_wanted.specs.LookUp.{IsKept, AreNoted, AreGreatest, AreShort, AreOffered, offers_at};
     ghost use Rattle.fb_wanted.specs.Depth.{AreDeep};
-    ghost use Rattle.fb_wanted.specs.Near.{AreNear};
     ghost use Rattle.fb_wanted.specs.Groups.{AreGrouped};
 
     ghost Value = { List Entry };
@@ -98,7 +90,6 @@ impl Model for Wanted {
         × AreNoted w.entries.items w.streaks
         × AreGreatest w.tracks w.greatest
         × AreDeep w.entries.items w.depths
-        × AreNear w.entries.items w.near
         × AreShort w.longest w.entries.items
         × AreOffered w.entries.items (offers_at w.tracks) w.offer_indexes.items
         × AreGrouped w.entries.items w.groups };
@@ -134,25 +125,15 @@ fn add_to_look_up(
     }
 }
 
-// Makes room in the bounds of cylinders and of bands for a block that is to be registered, and
-// notes its task at its chunk if `is_new`. What was noted stays noted and no bound changes, also
-// out of memory.
-fn make_room(
-    near: &mut BTreeSet<(u32, u32)>,
-    greatest: &mut Greatest,
-    depths: &mut Depths,
-    block: Block,
-    is_new: bool,
-) -> Result<(), NoMemory>
-    ensures near { (k : ℕ × ℕ) → contains pair_cmp near.old k ≡ true → contains pair_cmp near.new k ≡ true }
-    ensures noted { OnOk result (is_new ≡ true → contains pair_cmp near.new (near_of block) ≡ true) }
+// Makes room in the bounds of cylinders and of bands for a block that is to be registered. No bound
+// changes, also out of memory.
+fn make_room(greatest: &mut Greatest, depths: &mut Depths, block: Block) -> Result<(), NoMemory>
     ensures greatest { (c : ℕ) → get_or greatest.new c 0 ≡ get_or greatest.old c 0 }
     ensures longer { length greatest.old ≤ length greatest.new }
     ensures cylinder { OnOk result (block.track.cylinder < length greatest.new) }
     ensures depths { (k : ℕ) → get_or depths.new k no_depth ≡ get_or depths.old k no_depth }
     ensures band { OnOk result (band_of block < length depths.new) }
 {
-    note(near, chunk_of(block.lbn), block.task, is_new)?;
     greatest.add_room(block.track.cylinder)?;
     depths.add_room(band_of(block))
 }
@@ -295,23 +276,6 @@ impl Wanted {
         region_of(before.lbn) != region_of(block.lbn)
     }
 
-    // Whether a block that is to be registered begins in another chunk than the one registered last,
-    // or is another task's; else its chunk and its task are noted.
-    fn is_new_near(&self, block: Block) -> bool
-        ensures { result ≡ false → (i : ℕ) × (before : Block) × (slice_get (blocks_of self.now) i ≡ Some before)
-            × (near_of before ≡ near_of block) }
-    {
-        let count = self.entries.len();
-        if count == 0 {
-            return true;
-        }
-        let last = self.entries[count - 1].block;
-        if last.task != block.task {
-            return true;
-        }
-        chunk_of(last.lbn) != chunk_of(block.lbn)
-    }
-
     // Changes the task's blocks from the first one of a streak on, up to one that begins in another
     // region; returns that one's number, or one behind those of all blocks. The blocks of a group that
     // can't change are passed over, also if the streak ends before them.
@@ -371,18 +335,11 @@ impl Wanted {
         };
         let begins_streak = self.begins_streak(block);
         let streak = streak_from(block);
-        let is_new = self.is_new_near(block);
         let index = self.entries.len() as u32;
         self.entries.reserve(1)?;
         self.offer_indexes.reserve(1)?;
         self.groups.add_room(self.alloc, block)?;
-        make_room(
-            &mut self.near,
-            &mut self.greatest,
-            &mut self.depths,
-            block,
-            is_new,
-        )?;
+        make_room(&mut self.greatest, &mut self.depths, block)?;
         note_streak(&mut self.streaks, block.task, streak, begins_streak)?;
         match add_to_look_up(&mut self.tasks, &mut self.tracks, self.alloc, index, entry) {
             Ok(()) => {
@@ -413,7 +370,6 @@ impl Wanted {
             streaks: BTreeSet::new(alloc),
             offer_indexes: Vec::new(alloc),
             longest: 0,
-            near: BTreeSet::new(alloc),
             greatest: Greatest::new(alloc),
             depths: Depths::new(alloc),
         }
@@ -509,17 +465,6 @@ impl Wanted {
     {
         let _ = &self.entries;
         self.entry_of(task, index)
-    }
-
-    /// The first task from `from` on that may have a block that shares a sector with the range; the
-    /// end if there is none before it. So none of the tasks that are passed over has one.
-    pub fn next_task_near(&self, first: u64, count: u64, from: u32, end: u32) -> u32
-        requires { from ≤ end }
-        ensures order { (from ≤ result) × (result ≤ end) }
-        ensures others { (task : ℕ) → from ≤ task → task < result → SharesNone first count task self.now }
-    {
-        let _ = &self.entries;
-        next_near(&self.near, first, count, from, end)
     }
 
     /// How many blocks of the task are registered, and how many of them are delivered and aborted.

@@ -1,6 +1,6 @@
 // Each call once, over the blocks of one task, of which the last lies before the first on the disk,
 // and one block of another task.
-ghost use Rattle.std.specs.Prelude.{◌≡◌, ◌<◌, ◌≤◌, []};
+ghost use Rattle.std.specs.Prelude.{◌≡◌, ◌<◌, []};
 
 use fb_units::{Sweep, Track};
 use fb_wanted::{BAND, Block, State, Wanted};
@@ -97,17 +97,6 @@ const LAST: Block = Block {
         head: 1,
     },
     weight: 3,
-    sweep: SWEEP,
-};
-
-// A block that begins in the third chunk of 2,048 LBNs.
-const THIRD: Block = Block {
-    task: 2,
-    index: 0,
-    lbn: 5000,
-    count: 8,
-    track: FAR,
-    weight: 1,
     sweep: SWEEP,
 };
 
@@ -306,36 +295,6 @@ fn check_sector(rt: &impl Abort, wanted: &mut Wanted) -> Result<(), Fail>
     wanted.register(LAST, false)?;
     check_depth(rt, wanted, 0, 4);
     check_depth(rt, wanted, 1, 0);
-    Ok(())
-}
-
-// Expects this task to be the next one near the range.
-fn check_next(rt: &impl Abort, wanted: &Wanted, range: (u64, u64), from: u32, expected: u32)
-    requires { from ≤ 3 }
-{
-    assert_eq!(rt; wanted.next_task_near(range.0, range.1, from, 3), expected);
-}
-
-#[test]
-fn tasks_far_from_a_range_are_passed_over(rt: HostRuntime) -> Result<(), Fail> {
-    let mut wanted = Wanted::new(rt.alloc());
-    check_near(&rt, &mut wanted)
-}
-
-// Registers blocks of two tasks in one chunk and of a third task in another.
-fn check_near(rt: &impl Abort, wanted: &mut Wanted) -> Result<(), Fail>
-    requires { wanted.old ≡ [] }
-{
-    wanted.register(FIRST, false)?;
-    wanted.register(BESIDE, false)?;
-    wanted.register(THIRD, false)?;
-    check_next(rt, wanted, (0, 8), 0, 0);
-    check_next(rt, wanted, (0, 8), 1, 1);
-    check_next(rt, wanted, (0, 8), 2, 3);
-    check_next(rt, wanted, (4095, 1), 0, 3);
-    check_next(rt, wanted, (4095, 2), 0, 2);
-    check_next(rt, wanted, (5004, 8), 0, 2);
-    check_next(rt, wanted, (u64::MAX, 2048), 0, 3);
     Ok(())
 }
 

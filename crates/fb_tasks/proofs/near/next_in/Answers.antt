@@ -5,8 +5,8 @@ use Rattle.std.specs.BTreeSet.{contains}
 use Rattle.std.specs.Ordering.{is_gt}
 use Rattle.std.proofs.lemmas.Bool.{cases_Bool}
 use Rattle.std.proofs.lemmas.Option.{IfSome_then}
-use Rattle.fb_wanted.specs.LookUp.{pair_cmp}
-use Rattle.fb_wanted.proofs.Lists.{from_pair, seconds_rise, first_stays}
+use Rattle.fb_tasks.specs.Nearby.{pair_cmp}
+use Rattle.fb_tasks.proofs.Nearby.{from_pair, seconds_rise, first_stays}
 use Rattle.fb_tasks.proofs.near.next_in.Goals as goal
 
 pub returns-then-pair-chunk-clause-first : goal.returns-then-pair-chunk-clause-first

@@ -1,6 +1,6 @@
 use Rattle.std.proofs.Common.{◌≡◌, ℕ, ◌<◌, ◌≤◌, false}
 use Rattle.std.specs.BTreeSet.{contains}
-use Rattle.fb_wanted.specs.LookUp.{pair_cmp}
+use Rattle.fb_tasks.specs.Nearby.{pair_cmp}
 use Rattle.fb_tasks.proofs.near.next_near.Given as goal
 
 -- no task before the least one is noted in the chunks so far

@@ -1,9 +1,8 @@
-use Rattle.std.proofs.Common.{◌≡◌, ℕ, List, Some, false, ◌<◌, ◌-◌, ◌/◌, arith, ◌∙◌, ◌++◌, ◌∷◌, [], ap, sym, refl, subst, length, filter}
+use Rattle.std.proofs.Common.{◌≡◌, List, ◌<◌, ◌-◌, ◌/◌, arith, ◌∙◌, ◌++◌, ◌∷◌, [], ap, sym, refl, subst, length, filter}
 use Rattle.std.proofs.Common.{slice_get}
 use Rattle.std.proofs.lemmas.List.{length-map}
 use Rattle.fb_wanted.specs.declared.block.Block.{Block}
 use Rattle.fb_wanted.specs.declared.block.Entry.{Entry}
-use Rattle.fb_wanted.specs.Near.{near_of, AreNear}
 use Rattle.fb_wanted.specs.Numbering.{blocks_of, registered_count}
 use Rattle.fb_wanted.specs.Depth.{AreDeep}
 use Rattle.fb_wanted.specs.Groups.{AreGrouped}
@@ -16,7 +15,6 @@ use Rattle.fb_wanted.proofs.Kept.{kept_pushed, changed_weight, changed_offers}
 use Rattle.fb_wanted.proofs.Noting.{noted_more, noted_back, short_more}
 use Rattle.fb_wanted.proofs.Cylinders.{greatest_still, greatest_same}
 use Rattle.fb_wanted.proofs.Deep.{deep_room, deep_still, deep_pushed}
-use Rattle.fb_wanted.proofs.Nearby.{near_pushed, near_still}
 use Rattle.fb_wanted.proofs.Grouped.{group_room, grouped_still, grouped_pushed}
 use Rattle.fb_wanted.proofs.wanted.Wanted.add.Goals as goal
 use Rattle.fb_wanted.proofs.wanted.Wanted.add.Goals.{After-make_room}
@@ -38,7 +36,7 @@ with_room : (c : After-make_room)
     let items = self.entries.items in
     let new = c.make_room.new in
     IsKept items self.tasks.items self.tracks × AreNoted items self.streaks × AreGreatest self.tracks new.greatest
-    × AreDeep items new.depths × AreNear items new.near × AreShort self.longest items
+    × AreDeep items new.depths × AreShort self.longest items
     × AreOffered items (offers_at self.tracks) self.offer_indexes.items × AreGrouped items c.add_room.new.self
 with_room c =
     let self = c.self.inside in
@@ -50,10 +48,9 @@ with_room c =
       held.1,
       greatest_still self.tracks self.greatest new.greatest held.2 stay.greatest stay.longer,
       deep_still items self.depths new.depths held.3 stay.depths,
-      near_still items self.near new.near held.4 stay.near,
+      held.4,
       held.5,
-      held.6,
-      grouped_still items self.groups held.7 c.add_room.new.self c.add_room.ensures.stay,
+      grouped_still items self.groups held.6 c.add_room.new.self c.add_room.ensures.stay,
     )
 
 pub recount-requires : goal.recount-requires
@@ -64,7 +61,7 @@ recount-requires c =
     record {
       there = c.in_ok-add_room.ensures.there;
       part = rw c.no_counts.ensures (omega arith, omega arith, omega arith);
-      room = group_room items c.add_room.new.self kept.7 block.task (block.index / 512) block.task (record { block = block; state = Suspended })
+      room = group_room items c.add_room.new.self kept.6 block.task (block.index / 512) block.task (record { block = block; state = Suspended })
           c.counts_of.result c.self.invariant.0.few c.counts_of.ensures;
     }
 
@@ -74,7 +71,7 @@ deepen-requires-clause-room c =
     let room = subst (λ es. length es < 16000000) (sym c.self.view_is) c.requires.room in
     deep_room c.self.inside.entries.items c.make_room.new.depths c.band_of.result c.args.block.weight kept.3 room c.requires.light
 
--- out of memory before anything but the chunk is noted of the block
+-- out of memory before anything is noted of the block
 pub invariant_of-self : goal.invariant_of-self
 invariant_of-self c = rw c.in_err-reserve.ensures.items c.self.invariant
 
@@ -92,8 +89,7 @@ invariant_of-self-in_err-add_room c =
       held.3,
       held.4,
       held.5,
-      held.6,
-      grouped_still self.entries.items self.groups held.7 c.add_room.new.self c.add_room.ensures.stay,
+      grouped_still self.entries.items self.groups held.6 c.add_room.new.self c.add_room.ensures.stay,
     )
 
 pub invariant_of-self-in_err-make_room : goal.invariant_of-self-in_err-make_room
@@ -142,22 +138,17 @@ invariant_of-self-in-Ok c =
           (c.in-Ok.ensures.no_longer (length c.make_room.new.greatest) kept.2.there c.in_ok-make_room.ensures.cylinder),
       deep_pushed items c.push_reserved-in-Ok.new.self.items entry c.band_of.result c.make_room.new.depths
           c.deepen.new.self list c.band_of.ensures c.requires.light kept.3 c.deepen.ensures,
-      near_pushed items c.push_reserved-in-Ok.new.self.items entry self.near c.make_room.new.near c.is_new_near-is_new.result
-          list c.self.invariant.4 c.in_ok-make_room.ensures.near
-          c.in_ok-make_room.ensures.noted (subst (λ es. c.is_new_near-is_new.result ≡ false
-          → (i : ℕ) × (before : Block) × (slice_get (blocks_of es) i ≡ Some before) × (near_of before ≡ near_of c.args.block))
-          (sym c.self.view_is) c.is_new_near-is_new.ensures),
       subst (AreShort c.max-self-inside.result) (sym list)
-          (short_more items entry self.longest c.max-self-inside.result c.self.invariant.5 (omega (arith, c.max-self-inside.ensures))
+          (short_more items entry self.longest c.max-self-inside.result c.self.invariant.4 (omega (arith, c.max-self-inside.ensures))
           (omega (arith, c.max-self-inside.ensures))),
       subst (λ l. AreOffered l (offers_at c.add_to_look_up.new.tracks) c.push_reserved.new.self.items) (sym list)
           (subst (λ l. AreOffered (items ++ entry ∷ []) (offers_at c.add_to_look_up.new.tracks) l) (sym offer_indexes)
           (offered_pushed items (offers_at c.add_to_look_up.new.tracks) self.offer_indexes.items entry 0
-          (offered_still items (offers_at self.tracks) (offers_at c.add_to_look_up.new.tracks) self.offer_indexes.items c.self.invariant.6
+          (offered_still items (offers_at self.tracks) (offers_at c.add_to_look_up.new.tracks) self.offer_indexes.items c.self.invariant.5
           (changed_offers self.tracks c.add_to_look_up.new.tracks c.args.block.track (grown c.len-index.result) (λ o. refl)
           c.in-Ok.ensures.tracks)) refl)),
       subst (λ l. AreGrouped l c.recount.new.self) (sym list)
-          (grouped_pushed items c.add_room.new.self kept.7 c.recount.new.self entry c.no_counts.result c.counts_of.result
+          (grouped_pushed items c.add_room.new.self kept.6 c.recount.new.self entry c.no_counts.result c.counts_of.result
           c.no_counts.ensures c.counts_of.ensures c.recount.ensures),
     )
 
@@ -191,11 +182,10 @@ invariant_of-self-in-Err c =
       greatest_same self.tracks c.add_to_look_up.new.tracks c.make_room.new.greatest kept.2 (λ t. ap (λ o. o.weight) (stay.tracks_stay t))
           (stay.no_longer (length c.make_room.new.greatest) kept.2.there c.in_ok-make_room.ensures.cylinder),
       subst (λ es. AreDeep es c.make_room.new.depths) list kept.3,
-      subst (λ es. AreNear es c.make_room.new.near) list kept.4,
-      subst (AreShort self.longest) list c.self.invariant.5,
+      subst (AreShort self.longest) list c.self.invariant.4,
       subst (λ es. AreOffered es (offers_at c.add_to_look_up.new.tracks) c.reserve-2.new.self.items) list
           (subst (λ l. AreOffered items (offers_at c.add_to_look_up.new.tracks) l) (sym c.in_ok-reserve-2.ensures.items)
-          (offered_still items (offers_at self.tracks) (offers_at c.add_to_look_up.new.tracks) self.offer_indexes.items c.self.invariant.6
+          (offered_still items (offers_at self.tracks) (offers_at c.add_to_look_up.new.tracks) self.offer_indexes.items c.self.invariant.5
           (λ t. ap (λ o. o.offers) (stay.tracks_stay t)))),
-      subst (λ es. AreGrouped es c.add_room.new.self) list kept.7,
+      subst (λ es. AreGrouped es c.add_room.new.self) list kept.6,
     )

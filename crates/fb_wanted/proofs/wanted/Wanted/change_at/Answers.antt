@@ -20,7 +20,7 @@ returns-then-not-may_change-clause-changed c =
     let now = c.args.self.now in
     let group = c.args.number / 512 in
     let test = is_in_group c.args.task group in
-    let counts = c.at.ensures ∙ (c.self.invariant.7 c.args.task group ∙ ap (counted test) c.self.view_is) in
+    let counts = c.at.ensures ∙ (c.self.invariant.6 c.args.task group ∙ ap (counted test) c.self.view_is) in
     subst (λ n. AreChanged c.args.task c.args.change c.args.number n now now) (sym c.next_group.ensures)
     (passed_over c.args.task c.args.change c.args.number now (c.may_change.ensures c.if-not-may_change.true test now counts))
 

@@ -84,7 +84,7 @@ over c behind =
     let begin = c.region_of-start.ensures ∙ ap region_of before in
     finished c.args.task c.args.first c.args.count c.self.inside.longest c.args.change c.args.self.now old.chosen from c.requires.within
     (subst (λ es. AreInOrder (blocks_of es)) c.self.view_is c.self.invariant.0.in_order)
-    (subst (AreShort c.self.inside.longest) c.self.view_is c.self.invariant.5)
+    (subst (AreShort c.self.inside.longest) c.self.view_is c.self.invariant.4)
     (λ streak k begins near. old.done streak k begins (omega (arith, near, begin))) behind
 
 pub returns-then-is_behind : goal.returns-then-is_behind

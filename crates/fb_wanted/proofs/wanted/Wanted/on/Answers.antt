@@ -29,13 +29,13 @@ new-requires c =
     let kept = track_kept es self.tasks.items self.tracks c.self.invariant.0 t c.in-Some.on.now on in
     let most = track_weight es self.tasks.items self.tracks c.self.invariant.0 t c.in-Some.on.now on in
     let same = c.offers.ensures ∙ ap (λ o. o.offers) on in
-    let found = found_each es (offers_at self.tracks) self.offer_indexes.items t c.self.invariant.6 in
+    let found = found_each es (offers_at self.tracks) self.offer_indexes.items t c.self.invariant.5 in
     record {
       its = c.indexes.ensures ∙ (kept.0 ∙ ap (indexes_of (is_of_track t)) (sym is));
       few = omega (arith, ap length is, c.self.invariant.0.few);
       weight = c.weight.ensures ∙ (kept.1 ∙ ap (wanted_weight t) (sym is));
       small = omega (arith, c.weight.ensures, most);
-      blocks = read (AreThose t) c.as_slice.result.now es c.offers.result.now (offers_at self.tracks t) is same (c.self.invariant.6.sums t);
+      blocks = read (AreThose t) c.as_slice.result.now es c.offers.result.now (offers_at self.tracks t) is same (c.self.invariant.5.sums t);
       found = read AreFound c.as_slice.result.now es c.offers.result.now (offers_at self.tracks t) is same found;
     }
 
@@ -53,6 +53,6 @@ new-requires-in-None c =
       few = omega (arith, ap length is, c.self.invariant.0.few);
       weight = kept.1 ∙ ap (wanted_weight t) (sym is);
       small = omega arith;
-      blocks = read (AreThose t) slice es [] (offers_at self.tracks t) is (ap (λ o. o.offers) on) (c.self.invariant.6.sums t);
+      blocks = read (AreThose t) slice es [] (offers_at self.tracks t) is (ap (λ o. o.offers) on) (c.self.invariant.5.sums t);
       found = λ i offer at. absurd (none-some offer at);
     }

@@ -4,7 +4,6 @@ use Rattle.fb_wanted.specs.declared.block.Entry.{Entry}
 use Rattle.fb_wanted.specs.LookUp.{with_state, reweighed, indexes_of, is_of_track, offers_at, AreGreatest, AreNoted, AreShort, AreOffered}
 use Rattle.fb_wanted.specs.LookUp.{IsKept}
 use Rattle.fb_wanted.specs.Numbering.{AreSmall, blocks_of}
-use Rattle.fb_wanted.specs.Near.{AreNear}
 use Rattle.fb_wanted.specs.Groups.{AreGrouped}
 use Rattle.fb_wanted.proofs.Standing.{items-with_state}
 use Rattle.fb_wanted.proofs.Numbers.{small_at}
@@ -14,7 +13,6 @@ use Rattle.fb_wanted.proofs.Offering.{offered_still}
 use Rattle.fb_wanted.proofs.Regions.{noted-with_state, short-with_state}
 use Rattle.fb_wanted.proofs.Cylinders.{greatest_same, others_within, greatest_after}
 use Rattle.fb_wanted.proofs.Deep.{deep_set}
-use Rattle.fb_wanted.proofs.Nearby.{near-with_state}
 use Rattle.fb_wanted.proofs.Grouped.{its_group_there, group_part, group_room, grouped_set}
 use Rattle.fb_wanted.proofs.wanted.Wanted.set_state.Goals as goal
 use Rattle.fb_wanted.proofs.wanted.Wanted.set_state.Goals.{After-reoffer, After-reweigh-weight}
@@ -32,7 +30,7 @@ reoffer-requires c =
       indexes = λ t. kept.look_up.by_track t ∙ ap (indexes_of (is_of_track t)) is;
       tracks = λ e at. its_track_there items c.self.inside.tasks.items c.self.inside.tracks kept c.args.index e
           (ap (λ l. slice_get l c.args.index) is ∙ at);
-      offered = subst (λ l. AreOffered l (offers_at c.self.inside.tracks) c.self.inside.offer_indexes.items) is c.self.invariant.6;
+      offered = subst (λ l. AreOffered l (offers_at c.self.inside.tracks) c.self.inside.offer_indexes.items) is c.self.invariant.5;
     }
 
 -- the entry that changes is there
@@ -85,9 +83,9 @@ recount-requires-2 c =
     let at = here (goal.at.recount-requires-2 c).After-reoffer in
     let changed : Entry = record { block = block; state = c.args.state } in
     record {
-      there = its_group_there items groups c.self.invariant.7 c.args.index entry at;
-      part = group_part items groups c.self.invariant.7 c.args.index entry c.counts_of-before.result at c.counts_of-before.ensures;
-      room = group_room items groups c.self.invariant.7 block.task (block.index / 512) block.task changed c.counts_of-after.result
+      there = its_group_there items groups c.self.invariant.6 c.args.index entry at;
+      part = group_part items groups c.self.invariant.6 c.args.index entry c.counts_of-before.result at c.counts_of-before.ensures;
+      room = group_room items groups c.self.invariant.6 block.task (block.index / 512) block.task changed c.counts_of-after.result
           c.self.invariant.0.few c.counts_of-after.ensures;
     }
 
@@ -153,13 +151,12 @@ invariant_of-self c =
           c.update_greatest.new.greatest (omega (arith, c.reweigh-weight.ensures.length, (greatest_mid after).there))
           c.update_greatest.ensures.length c.update_greatest.ensures.weights,
       deep_set state index entry items self.depths (here after) c.self.invariant.3,
-      subst (λ l. AreNear l self.near) same (near-with_state state index items self.near c.self.invariant.4),
-      subst (AreShort self.longest) same (short-with_state self.longest state index items c.self.invariant.5),
+      subst (AreShort self.longest) same (short-with_state self.longest state index items c.self.invariant.4),
       subst (λ l. AreOffered l (offers_at new) offer_indexes) same
           (offered_still (with_state state index items) (offers_at old) (offers_at new) offer_indexes offered
           (changed_offers old new entry.block.track change (λ o. refl) c.reweigh-weight.ensures.tracks)),
       subst (λ l. AreGrouped l c.recount-2.new.self) same
-          (grouped_set items self.groups c.self.invariant.7 c.recount-2.new.self state index entry c.counts_of-before.result
+          (grouped_set items self.groups c.self.invariant.6 c.recount-2.new.self state index entry c.counts_of-before.result
           c.counts_of-after.result (here after) c.counts_of-before.ensures c.counts_of-after.ensures c.recount-2.ensures),
     )
 
