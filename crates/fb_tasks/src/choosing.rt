@@ -55,7 +55,7 @@ impl Session {
     {
         match self.kind {
             Kind::Clean => !self.closed,
-            _ => false,
+            Kind::Plain | Kind::Backup | Kind::Scrub => false,
         }
     }
 

@@ -68,7 +68,7 @@ impl Session {
         match self.kind {
             Kind::Backup => self.image.take(block, content),
             Kind::Clean => self.log.take(block, content),
-            _ => Ok(()),
+            Kind::Plain | Kind::Scrub => Ok(()),
         }
     }
 
@@ -78,7 +78,7 @@ impl Session {
     {
         match self.kind {
             Kind::Scrub => bad_sectors(alloc, &got.content),
-            _ => Ok(Vec::new(alloc)),
+            Kind::Plain | Kind::Backup | Kind::Clean => Ok(Vec::new(alloc)),
         }
     }
 }

@@ -84,7 +84,9 @@ impl Session {
                 self.log.len() > 0
                     && (self.closed || (self.log.unfinished().is_none() && !self.log.has_rest()))
             }
-            _ => counts.registered > 0 && counts.delivered + counts.aborted == counts.registered,
+            Kind::Plain | Kind::Backup | Kind::Scrub => {
+                counts.registered > 0 && counts.delivered + counts.aborted == counts.registered
+            }
         }
     }
 
@@ -94,7 +96,7 @@ impl Session {
     {
         match self.kind {
             Kind::Backup => !self.sealed,
-            _ => false,
+            Kind::Plain | Kind::Scrub | Kind::Clean => false,
         }
     }
 

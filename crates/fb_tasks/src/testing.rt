@@ -62,7 +62,7 @@ impl Session {
     {
         match self.kind {
             Kind::Clean => self.log.unfinished(),
-            _ => None,
+            Kind::Plain | Kind::Backup | Kind::Scrub => None,
         }
     }
 
@@ -208,7 +208,7 @@ impl Session {
             State::Aborted => self
                 .image
                 .drop_range(entry.block.lbn, entry.block.count as u64),
-            _ => Ok(()),
+            State::Wanted | State::Suspended | State::Delivered => Ok(()),
         }
     }
 }
