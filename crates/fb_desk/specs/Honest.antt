@@ -1,5 +1,5 @@
 -- A desk whose calls never fail.
-use Rattle.std.specs.Prelude.{ℕ, List, [], is_some, unwrap_or, Option, Some}
+use Rattle.std.specs.Prelude.{ℕ, List, [], is_some, unwrap_or, Option, Some, None}
 use Rattle.fb_desk.specs.declared.desk.Input.{Input}
 use Rattle.fb_desk.specs.declared.desk.Output.{Output}
 use Rattle.fb_desk.specs.declared.honest.HonestDesk.{HonestDesk}
@@ -21,6 +21,6 @@ honest_input desk which = record { opened = is_some (left_in desk.holdings which
 abbrev pub honest_output : HonestDesk → Output → OutputView
 honest_output desk which = silent_output (of_output desk.begun which) 0
 
--- what such a desk shows
+-- what such a desk shows: its calls aren't told
 abbrev pub honest_view : HonestDesk → DeskView
-honest_view desk = record { held = held_or_empty desk.holdings.entries; inputs = honest_input desk; outputs = honest_output desk }
+honest_view desk = record { held = held_or_empty desk.holdings.entries; inputs = honest_input desk; outputs = honest_output desk; calls = None }

@@ -38,9 +38,9 @@ memory_output desk which = record {
   faults = desk.write_faults which;
 }
 
--- a desk in memory tells everything
+-- a desk in memory tells everything but its calls
 abbrev pub view_of : MemoryState → DeskView
-view_of desk = record { held = desk.held; inputs = memory_input desk; outputs = memory_output desk }
+view_of desk = record { held = desk.held; inputs = memory_input desk; outputs = memory_output desk; calls = None }
 
 -- the number of the next call is among those of the calls that are to fail
 abbrev pub is_to_fail : MemoryState → Bool

@@ -1,4 +1,4 @@
--- What a desk shows that tells no bytes and no names.
+-- What a desk shows that tells no bytes, no names and no calls.
 use Rattle.std.specs.Prelude.{ℕ, Bool, None}
 use Rattle.fb_desk.specs.declared.desk.Input.{Input}
 use Rattle.fb_desk.specs.declared.desk.Output.{Output}
@@ -18,4 +18,5 @@ silent_view opened begun read_faults write_faults = record {
   held = λ name. None;
   inputs = λ which. silent_input (opened which) (read_faults which);
   outputs = λ which. silent_output (begun which) (write_faults which);
+  calls = None;
 }

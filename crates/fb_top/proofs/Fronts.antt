@@ -1,6 +1,6 @@
 -- Texts written line by line.
 use Rattle.std.proofs.Common.{◌≡◌, ℕ, ◌+◌, ◌≤◌, List, [], ◌∷◌, ◌++◌, length, take, drop, sym, ap, ◌∙◌, append_assoc, append-nil, Option}
-use Rattle.std.proofs.Common.{Some, None, subst}
+use Rattle.std.proofs.Common.{Some, None, arith, subst}
 use Rattle.std.specs.Prelude.{IfSome, slice_get}
 use Rattle.std.proofs.lemmas.List.{take_more, drop_more, take_all, take-append-drop}
 use Rattle.std.proofs.lemmas.List.Concat.{flat_map-append}
@@ -69,9 +69,9 @@ pub holds_none : (written : Option (List ℕ)) (lines : List (List ℕ)) → IfS
 holds_none None lines h = tt
 holds_none (Some bytes) lines h = h
 
--- a count that stayed, and then rose, has risen
-pub rose_since : (old now new : ℕ) → now ≡ old → Rose now new → Rose old new
-rose_since old now new same rose = subst (λ (count : ℕ). Rose count new) same rose
+-- a count that didn't fall, and then rose, has risen
+pub rose_since : (old now new : ℕ) → old ≤ now → Rose now new → Rose old new
+rose_since old now new later rose = omega arith
 
 -- a name that stays
 pub same_name : (name : List ℕ) (old new : Option (List ℕ)) → new ≡ old → IfSome old (λ told. told ≡ name)

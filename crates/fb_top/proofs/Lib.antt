@@ -1,4 +1,5 @@
 pub mod Pieces
+pub mod Called
 pub mod Fronts
 pub mod Counted
 pub mod SameText

@@ -8,7 +8,6 @@ use Rattle.fb_desk.specs.declared.desk.Input.{Input}
 use Rattle.fb_desk.specs.declared.desk.Input.TheVariants.{Params, Trace, Calls, Puts, ForeReport, BackReport}
 use Rattle.fb_top.specs.declared.outcome.Outcome.{Outcome}
 use Rattle.fb_top.specs.declared.outcome.Outcome.TheVariants as outcomes
-use Rattle.fb_top.specs.Calm.{AreInputsCalm}
 use Rattle.fb_top.specs.Causes.{AcceptsBefore, AcceptsFiles, EndsAt, StopsInputs, StopsPuts, StopsGivenPuts}
 use Rattle.fb_top.specs.Opened.{IsOpenedAs, OpensAsNamed}
 use Rattle.fb_top.specs.Read.{AcceptsPuts, Files}
@@ -141,15 +140,3 @@ module _ (terms : InputNames) (files : FileNames) (same : files ≡ terms.files)
       unopened ForeReport name old new unused (only.inputs ForeReport (λ e. cc) ∙ unnamed ForeReport refl)
   puts_opened unused opened puts BackReport name given =
       unopened BackReport name old new unused (only.inputs BackReport (λ e. cc) ∙ unnamed BackReport refl)
-
-  still_calm : AreInputsCalm old mid → (input : Input) → new.inputs input ≡ mid.inputs input
-      → (new.inputs input).faults ≡ (old.inputs input).faults
-  still_calm calm input same = ap (λ (v : InputView). v.faults) same ∙ calm input
-
-  pub puts_calm : AreInputsCalm old mid → (new.inputs Puts).faults ≡ (mid.inputs Puts).faults → AreInputsCalm old new
-  puts_calm calm puts Params = still_calm calm Params (only.inputs Params (λ e. cc))
-  puts_calm calm puts Trace = still_calm calm Trace (only.inputs Trace (λ e. cc))
-  puts_calm calm puts Calls = still_calm calm Calls (only.inputs Calls (λ e. cc))
-  puts_calm calm puts Puts = puts ∙ calm Puts
-  puts_calm calm puts ForeReport = still_calm calm ForeReport (only.inputs ForeReport (λ e. cc))
-  puts_calm calm puts BackReport = still_calm calm BackReport (only.inputs BackReport (λ e. cc))

@@ -43,10 +43,10 @@ cut_note first last (Some bytes) new text line empty is front rose =
       rose,
     )))
 
--- a count that stayed, and then rose, has risen
-pub rose_on : {T E : Type 0} (result : Result T E) (old now new : ℕ) → now ≡ old → OnErr result (Rose now new) → OnErr result (Rose old new)
-rose_on (Ok x) old now new same rose = tt
-rose_on (Err e) old now new same rose = rose_since old now new same rose
+-- a count that didn't fall, and then rose, has risen
+pub rose_on : {T E : Type 0} (result : Result T E) (old now new : ℕ) → old ≤ now → OnErr result (Rose now new) → OnErr result (Rose old new)
+rose_on (Ok x) old now new later rose = tt
+rose_on (Err e) old now new later rose = rose_since old now new later rose
 
 -- a note that was written, or cut off
 pub note_written : {T E : Type 0} (result : Result T E) (first old new : OutputView) (text line : List ℕ)

@@ -1,4 +1,4 @@
--- Inputs are opened under the names of the words, and no call failed where all is done.
+-- Inputs are opened under the names of the words.
 use Rattle.std.proofs.Common.{◌≡◌, ◌∙◌, ℕ, List, ◌++◌, Option, Some, None, true, refl, sym, ap, subst}
 use Rattle.std.specs.Prelude.{IfSome, Result, Ok, Err}
 use Rattle.fb_desk.specs.Calls.{ChangesInput, ChangesOutput, before}
@@ -13,7 +13,6 @@ use Rattle.fb_words.specs.declared.fault.UsageFault.{UsageFault}
 use Rattle.fb_top.specs.declared.outcome.Outcome.{Outcome}
 use Rattle.fb_top.specs.declared.outcome.Outcome.TheVariants as outcomes
 use Rattle.fb_top.specs.Streams.{IsLeftOf}
-use Rattle.fb_top.specs.Calm.{AreInputsCalm, AreOutputsCalm, IsCalm, MeetsNoFault}
 use Rattle.fb_top.specs.Opened.{IsOpenedAs, OpensAsNamed, OpensNamed}
 use Rattle.fb_top.specs.Noted.{LeavesNote}
 use Rattle.fb_top.specs.Taken.{KeepsOutputs}
@@ -105,65 +104,3 @@ opened_after (Ok (checks terms)) which old mid new opened only =
 opened_after (Ok (arrays terms)) which old mid new opened only =
     opened_written (array_names terms) old mid new opened (λ input. only.inputs input)
 opened_after (Err fault) which old mid new opened only = tt
-
--- no call failed while the three inputs were read
-pub calm_inputs : (old mid late new : DeskView) → ChangesInput Params old mid → ChangesInput Trace mid late → ChangesInput Calls late new
-    → (mid.inputs Params).faults ≡ (old.inputs Params).faults → (late.inputs Trace).faults ≡ (mid.inputs Trace).faults
-    → (new.inputs Calls).faults ≡ (late.inputs Calls).faults → AreInputsCalm old new
-calm_inputs old mid late new first second third params trace script Params =
-    ap (λ (v : InputView). v.faults) (third.inputs Params (λ e. cc) ∙ second.inputs Params (λ e. cc)) ∙ params
-calm_inputs old mid late new first second third params trace script Trace =
-    ap (λ (v : InputView). v.faults) (third.inputs Trace (λ e. cc)) ∙ trace ∙ ap (λ (v : InputView). v.faults)
-    (first.inputs Trace (λ e. cc))
-calm_inputs old mid late new first second third params trace script Calls =
-    script ∙ ap (λ (v : InputView). v.faults) (second.inputs Calls (λ e. cc) ∙ first.inputs Calls (λ e. cc))
-calm_inputs old mid late new first second third params trace script Puts =
-    ap (λ (v : InputView). v.faults) (third.inputs Puts (λ e. cc) ∙ second.inputs Puts (λ e. cc) ∙ first.inputs Puts (λ e. cc))
-calm_inputs old mid late new first second third params trace script ForeReport =
-    ap (λ (v : InputView). v.faults)
-    (third.inputs ForeReport (λ e. cc) ∙ second.inputs ForeReport (λ e. cc) ∙ first.inputs ForeReport (λ e. cc))
-calm_inputs old mid late new first second third params trace script BackReport =
-    ap (λ (v : InputView). v.faults)
-    (third.inputs BackReport (λ e. cc) ∙ second.inputs BackReport (λ e. cc) ∙ first.inputs BackReport (λ e. cc))
-
--- inputs were read, and then outputs written
-pub calm_both : (old mid new : DeskView) → AreInputsCalm old mid → KeepsOutputs old mid → KeepsInputs mid new → AreOutputsCalm mid new
-    → IsCalm old new
-calm_both old mid new read same keeps written = record {
-  inputs = λ input. ap (λ (v : InputView). v.faults) (keeps input) ∙ read input;
-  outputs = λ output. written output ∙ ap (λ (v : OutputView). v.faults) (same output);
-}
-
--- the note was written, and no other output was touched
-calm_note : (old new : DeskView) → ChangesOutput Note old new → (new.outputs Note).faults ≡ (old.outputs Note).faults
-    → AreOutputsCalm old new
-calm_note old new only calm Note = calm
-calm_note old new only calm Fore = ap (λ (v : OutputView). v.faults) (only.outputs Fore (λ e. cc))
-calm_note old new only calm Back = ap (λ (v : OutputView). v.faults) (only.outputs Back (λ e. cc))
-calm_note old new only calm Spill = ap (λ (v : OutputView). v.faults) (only.outputs Spill (λ e. cc))
-calm_note old new only calm MadeTrace = ap (λ (v : OutputView). v.faults) (only.outputs MadeTrace (λ e. cc))
-calm_note old new only calm MadeCalls = ap (λ (v : OutputView). v.faults) (only.outputs MadeCalls (λ e. cc))
-calm_note old new only calm Copied = ap (λ (v : OutputView). v.faults) (only.outputs Copied (λ e. cc))
-
-pub calm_outputs : (old mid new : DeskView) → AreOutputsCalm old mid → AreOutputsCalm mid new → AreOutputsCalm old new
-calm_outputs old mid new first second = λ output. second output ∙ first output
-
-is_calm_after : (old mid new : DeskView) → IsCalm old mid → ChangesOutput Note mid new
-    → (new.outputs Note).faults ≡ (mid.outputs Note).faults → IsCalm old new
-is_calm_after old mid new calm only note = record {
-  inputs = λ input. ap (λ (v : InputView). v.faults) (only.inputs input) ∙ calm.inputs input;
-  outputs = calm_outputs old mid new calm.outputs (calm_note mid new only note);
-}
-
--- the note is left as it is where something was done
-pub calm_after : (outcome : Outcome) (old mid new : DeskView) → MeetsNoFault outcome old mid → ChangesOutput Note mid new
-    → LeavesNote outcome (mid.outputs Note) (new.outputs Note) → MeetsNoFault outcome old new
-calm_after (outcomes.Done run) old mid new calm only note = is_calm_after old mid new calm only (ap (λ (v : OutputView). v.faults) note)
-calm_after (outcomes.Made n) old mid new calm only note = is_calm_after old mid new calm only (ap (λ (v : OutputView). v.faults) note)
-calm_after (outcomes.Checked verdict) old mid new calm only note =
-    is_calm_after old mid new calm only (ap (λ (v : OutputView). v.faults) note)
-calm_after (outcomes.Arrayed runs copy) old mid new calm only note =
-    is_calm_after old mid new calm only (ap (λ (v : OutputView). v.faults) note)
-calm_after (outcomes.Spilled run spill) old mid new calm only note =
-    is_calm_after old mid new calm only (ap (λ (v : OutputView). v.faults) note)
-calm_after _ old mid new calm only note = tt

@@ -12,7 +12,6 @@ use Rattle.fb_desk.specs.declared.desk.Output.TheVariants.{Fore, Back, Spill}
 use Rattle.fb_words.specs.Command.{ReplayTerms}
 use Rattle.fb_top.specs.declared.outcome.Outcome.{Outcome}
 use Rattle.fb_top.specs.declared.outcome.Outcome.TheVariants as outcomes
-use Rattle.fb_top.specs.Calm.{IsCalm, MeetsNoFault}
 use Rattle.fb_top.specs.Causes.{HasCause, IsCut, RunsOut}
 use Rattle.fb_top.specs.Done.{AreReadBack, CanBeRead, HoldsReports, HoldsGiven, IsRunOf, back_told, fore_told}
 use Rattle.fb_top.specs.Read.{AcceptsPuts, Files, inputs_of_files, key_of}
@@ -177,8 +176,3 @@ module _ (terms : ReplayTerms) (files : Files) (puts : Option PutsRead) (old mid
       at_replay (outcomes.WriteFault output) h = is_cut (outcomes.WriteFault output) h
       at_replay outcomes.NoMemory h = inr (is_cut outcomes.NoMemory h)
       at_replay _ h = absurd (nothing_stops h)
-
--- a replay that is done has met no fault, if none was met
-pub calm_done : (run : Run) (spill : Option SpillRun) (old new : DeskView) → IsCalm old new → MeetsNoFault (done_as run spill) old new
-calm_done run None old new calm = calm
-calm_done run (Some spill) old new calm = calm

@@ -54,11 +54,6 @@ pub record ChangesPrinted (old new : DeskView) : Type 0 where
   pub inputs : (other : Input) → other ≢ ForeReport → other ≢ BackReport → new.inputs other ≡ old.inputs other
   pub outputs : (other : Output) → new.outputs other ≡ old.outputs other
 
--- no call of theirs has failed
-pub record ArePrintedCalm (old new : DeskView) : Type 0 where
-  pub fore : (new.inputs ForeReport).faults ≡ (old.inputs ForeReport).faults
-  pub back : (new.inputs BackReport).faults ≡ (old.inputs BackReport).faults
-
 -- the lines of the background report under its name, and the verdict on them and on foreground lines by these files
 pub record JudgesBack (desk : DeskView) (terms : CheckTerms) (files : Files) (fore : List LineFields) (verdict : Verdict) : Type 0 where
   pub back : List LineFields

@@ -6,7 +6,7 @@ use Rattle.fb_words.specs.Command.{Terms}
 use Rattle.fb_words.specs.declared.fault.UsageFault.{UsageFault}
 use Rattle.fb_top.specs.declared.outcome.Outcome.{Outcome}
 use Rattle.fb_top.specs.Answers.{AnswersWords}
-use Rattle.fb_top.specs.Calm.{MeetsNoFault}
+use Rattle.fb_top.specs.Called.{EndsWithNote, asked_by}
 use Rattle.fb_top.specs.Complete.{IsComplete}
 use Rattle.fb_top.specs.Noted.{LeavesNote}
 use Rattle.fb_top.specs.Opened.{OpensNamed}
@@ -21,5 +21,5 @@ pub record EndsWith (reading : Result Terms UsageFault) (old new : DeskView) (st
   pub complete : IsComplete reading old new outcome
   pub unnamed : LeavesUnnamed reading old new
   pub opened : OpensNamed reading old new
-  pub calm : MeetsNoFault outcome old new
+  pub calls : EndsWithNote (asked_by reading) outcome old.calls new.calls
   pub note : LeavesNote outcome (old.outputs Note) (new.outputs Note)

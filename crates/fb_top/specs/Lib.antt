@@ -10,7 +10,7 @@ pub mod Causes
 pub mod Unnamed
 pub mod Opened
 pub mod Taken
-pub mod Calm
+pub mod Called
 pub mod Make
 pub mod Devices
 pub mod Array

@@ -2,6 +2,7 @@
 ghost use Rattle.std.specs.Prelude.{◌≡◌, ◌%◌, ◌^◌, ◌<◌, ◌≤◌, ℕ, Some, true, false, length, slice_get, IfErr, IfOk, IfSome, OnOk};
 ghost use Rattle.std.specs.List.{AllByRecursion};
 ghost use Rattle.std.specs.Option.{option_map};
+ghost use Rattle.std.specs.String.{string_bytes};
 ghost use Rattle.fb_script.specs.Allowed.{tasks};
 ghost use Rattle.fb_desk.specs.View.{DeskView, IsUnused};
 ghost use Rattle.fb_model.specs.Accepted.{IsAccepted};
@@ -11,7 +12,6 @@ ghost use Rattle.fb_words.specs.Command.{arrays};
 ghost use Rattle.fb_words.specs.Limits.{IsWithinLimits};
 ghost use Rattle.fb_words.specs.Verdict.{array_terms};
 ghost use Rattle.fb_top.specs.Array.{ArrayHasCause, CanTellFore, IsRunOfDevice, array_texts, copy_texts, replacement, sectors_of, survivor};
-ghost use Rattle.fb_top.specs.Calm.{AreOutputsCalm, MeetsNoFault};
 ghost use Rattle.fb_top.specs.Devices.{array_of, device_inputs, is_rebuilt_from};
 ghost use Rattle.fb_top.specs.Done.{CanBeTold};
 ghost use Rattle.fb_top.specs.Opened.{OpensAsNamed};
@@ -19,6 +19,7 @@ ghost use Rattle.fb_top.specs.Names.{array_names};
 ghost use Rattle.fb_top.specs.Taken.{TakesArray};
 ghost use Rattle.fb_top.specs.Unnamed.{KeepsInputs, KeepsUnnamed};
 ghost use Rattle.fb_top.specs.Written.{StopsTexts, WritesAll};
+ghost use Rattle.fb_top.specs.Called.{Asked, Ends, EndsAs, array_asks};
 
 use crate::array_text::{ArrayLines, CopyLines};
 use crate::devices::{ArrayFiles, read_array};
@@ -43,7 +44,7 @@ pub fn run_array<D: Desk>(alloc: Global, desk: &mut D, words: &ArrayWords) -> Ou
     ensures cause { ArrayHasCause (array_terms words.now) (D.seen desk.old) (D.seen desk.new) result }
     ensures unnamed { KeepsUnnamed (array_names (array_terms words.now)) (D.seen desk.old) (D.seen desk.new) }
     ensures opened { OpensAsNamed (array_names (array_terms words.now)) (D.seen desk.old) (D.seen desk.new) }
-    ensures calm { MeetsNoFault result (D.seen desk.old) (D.seen desk.new) }
+    ensures calls { EndsAs (array_asks (array_terms words.now)) result (D.seen desk.old).calls (D.seen desk.new).calls }
     ensures no_note { (D.seen desk.new).outputs Output.Note ≡ (D.seen desk.old).outputs Output.Note }
 {
     match read_array(alloc, desk, words) {
@@ -67,7 +68,7 @@ fn replay_array<D: Desk>(
     requires names { length files.now.calls.names ≡ length (tasks files.now.calls.calls.items) }
     ensures cause { (first : DeskView) → TakesArray (array_terms words.now) (array_of files.now) first (D.seen desk.old)
         → ArrayHasCause (array_terms words.now) first (D.seen desk.new) result }
-    ensures calm { MeetsNoFault result (D.seen desk.old) (D.seen desk.new) }
+    ensures calls { EndsAs (array_asks (array_terms words.now)) result (D.seen desk.old).calls (D.seen desk.new).calls }
     ensures no_note { (D.seen desk.new).outputs Output.Note ≡ (D.seen desk.old).outputs Output.Note }
     ensures inputs { KeepsInputs (D.seen desk.old) (D.seen desk.new) }
 {
@@ -180,7 +181,7 @@ fn write_array<D: Desk>(
         (WritesAll (array_texts (array_terms words.now) (array_of files.now) runs.now) (D.seen desk.old) (D.seen desk.new)) }
     ensures stops { IfErr result
         (StopsTexts (array_texts (array_terms words.now) (array_of files.now) runs.now) (D.seen desk.old) (D.seen desk.new)) }
-    ensures calm { OnOk result (AreOutputsCalm (D.seen desk.old) (D.seen desk.new)) }
+    ensures calls { Ends (array_asks (array_terms words.now)) result (D.seen desk.old).calls (D.seen desk.new).calls }
     ensures no_note { (D.seen desk.new).outputs Output.Note ≡ (D.seen desk.old).outputs Output.Note }
     ensures inputs { KeepsInputs (D.seen desk.old) (D.seen desk.new) }
 {
@@ -229,7 +230,9 @@ fn write_rebuild<D: Desk>(
     requires few { length copy.now.copy.now.content ≤ 10 ^ 12 }
     ensures whole { OnOk result (WritesAll (copy_texts words.now back.now copy.now) (D.seen desk.old) (D.seen desk.new)) }
     ensures stops { IfErr result (StopsTexts (copy_texts words.now back.now copy.now) (D.seen desk.old) (D.seen desk.new)) }
-    ensures calm { OnOk result (AreOutputsCalm (D.seen desk.old) (D.seen desk.new)) }
+    ensures calls { (asked : Asked) → asked.outputs Output.Back ≡ Some (string_bytes words.now.back)
+        → asked.outputs Output.Copied ≡ Some (string_bytes words.now.copy)
+        → Ends asked result (D.seen desk.old).calls (D.seen desk.new).calls }
     ensures no_note { (D.seen desk.new).outputs Output.Note ≡ (D.seen desk.old).outputs Output.Note }
     ensures inputs { KeepsInputs (D.seen desk.old) (D.seen desk.new) }
 {

@@ -1,22 +1,22 @@
 // The command that judges printed reports.
-ghost use Rattle.std.specs.Prelude.{◌≡◌, ◌≢◌, ◌≤◌, ◌^◌, ℕ, false, codes, length, IfErr, IfOk, OnOk};
+ghost use Rattle.std.specs.Prelude.{◌≡◌, ◌≢◌, ◌≤◌, ◌^◌, ℕ, Some, false, codes, length, IfErr, IfOk, OnOk};
 ghost use Rattle.fb_script.specs.Allowed.{tasks};
 ghost use Rattle.fb_desk.specs.Calls.{ChangesInput, ChangesOutput};
 ghost use Rattle.fb_desk.specs.View.{DeskView, IsUnused};
 ghost use Rattle.fb_model.specs.Accepted.{IsAccepted};
 ghost use Rattle.fb_words.specs.Verdict.{check_terms};
-ghost use Rattle.fb_top.specs.Calm.{MeetsNoFault};
 ghost use Rattle.fb_report.specs.Grammar.{fore_grammar};
 ghost use Rattle.fb_report.specs.Reading.{IsReport};
 ghost use Rattle.fb_desk.specs.declared.desk.Input.TheVariants.{BackReport};
 ghost use Rattle.fb_top.specs.Causes.{CheckHasCause, StopsPrinted, StopsReport, refused_as};
-ghost use Rattle.fb_top.specs.Checked.{ArePrintedCalm, ChangesPrinted, JudgesBack, JudgesBy, verdict_line};
+ghost use Rattle.fb_top.specs.Checked.{ChangesPrinted, JudgesBack, JudgesBy, verdict_line};
 ghost use Rattle.fb_top.specs.Opened.{IsOpenedAs, OpensAsNamed};
 ghost use Rattle.fb_top.specs.Read.{files_of, inputs_of_files, key_of};
 ghost use Rattle.fb_top.specs.Names.{check_names, check_file_names, file_names};
 ghost use Rattle.fb_top.specs.Taken.{TakesCheck};
 ghost use Rattle.fb_top.specs.Unnamed.{KeepsUnnamed};
 ghost use Rattle.fb_top.specs.Written.{HoldsWhole, StopsText};
+ghost use Rattle.fb_top.specs.Called.{Asked, Ends, EndsAs, check_asks};
 
 use crate::Outcome;
 use crate::policy::judge_by;
@@ -37,7 +37,7 @@ pub fn run_check<D: Desk>(alloc: Global, desk: &mut D, words: &CheckWords) -> Ou
     ensures cause { CheckHasCause (check_terms words.now) (D.seen desk.old) (D.seen desk.new) result }
     ensures unnamed { KeepsUnnamed (check_names (check_terms words.now)) (D.seen desk.old) (D.seen desk.new) }
     ensures opened { OpensAsNamed (check_names (check_terms words.now)) (D.seen desk.old) (D.seen desk.new) }
-    ensures calm { MeetsNoFault result (D.seen desk.old) (D.seen desk.new) }
+    ensures calls { EndsAs (check_asks (check_terms words.now)) result (D.seen desk.old).calls (D.seen desk.new).calls }
     ensures no_note { (D.seen desk.new).outputs Output.Note ≡ (D.seen desk.old).outputs Output.Note }
 {
     match read_files(alloc, desk, &named_files(words)) {
@@ -59,7 +59,7 @@ fn check_read<D: Desk>(alloc: Global, desk: &mut D, words: &CheckWords, files: &
         → (D.seen desk.new).inputs input ≡ (D.seen desk.old).inputs input }
     ensures fore { IsOpenedAs (check_terms words.now).fore (D.seen desk.old) ((D.seen desk.new).inputs Input.ForeReport) }
     ensures back { IsOpenedAs (check_terms words.now).back (D.seen desk.old) ((D.seen desk.new).inputs Input.BackReport) }
-    ensures calm { MeetsNoFault result (D.seen desk.old) (D.seen desk.new) }
+    ensures calls { EndsAs (check_asks (check_terms words.now)) result (D.seen desk.old).calls (D.seen desk.new).calls }
     ensures no_note { (D.seen desk.new).outputs Output.Note ≡ (D.seen desk.old).outputs Output.Note }
 {
     let verdict = match judge_printed(alloc, desk, words, files) {
@@ -100,7 +100,7 @@ fn judge_printed<D: Desk>(
     ensures only { ChangesPrinted (D.seen desk.old) (D.seen desk.new) }
     ensures fore { IsOpenedAs (check_terms words.now).fore (D.seen desk.old) ((D.seen desk.new).inputs Input.ForeReport) }
     ensures back { IsOpenedAs (check_terms words.now).back (D.seen desk.old) ((D.seen desk.new).inputs Input.BackReport) }
-    ensures calm { IfOk result (λ _. ArePrintedCalm (D.seen desk.old) (D.seen desk.new)) }
+    ensures calls { Ends (check_asks (check_terms words.now)) result (D.seen desk.old).calls (D.seen desk.new).calls }
     ensures judges { IfOk result (JudgesBy (D.seen desk.old) (check_terms words.now) (files_of files.now)) }
     ensures stops { IfErr result (StopsPrinted (check_terms words.now) (D.seen desk.old) (D.seen desk.new)) }
 {
@@ -128,8 +128,7 @@ fn judge_with<D: Desk>(
     requires fore { IsReport fore_grammar fore.now }
     ensures only { ChangesInput Input.BackReport (D.seen desk.old) (D.seen desk.new) }
     ensures opened { IsOpenedAs (check_terms words.now).back (D.seen desk.old) ((D.seen desk.new).inputs Input.BackReport) }
-    ensures calm { IfOk result
-        (λ _. ((D.seen desk.new).inputs Input.BackReport).faults ≡ ((D.seen desk.old).inputs Input.BackReport).faults) }
+    ensures calls { Ends (check_asks (check_terms words.now)) result (D.seen desk.old).calls (D.seen desk.new).calls }
     ensures judges { IfOk result (JudgesBack (D.seen desk.old) (check_terms words.now) (files_of files.now) fore.now) }
     ensures stops { IfErr result (StopsReport BackReport (check_terms words.now).back (D.seen desk.old) (D.seen desk.new)) }
 {
@@ -168,7 +167,8 @@ fn write_verdict<D: Desk>(alloc: Global, desk: &mut D, verdict: &Verdict) -> Res
     requires fresh { ((D.seen desk.old).outputs Output.Fore).begun ≡ false }
     ensures only { ChangesOutput Output.Fore (D.seen desk.old) (D.seen desk.new) }
     ensures whole { OnOk result (HoldsWhole ((D.seen desk.new).outputs Output.Fore) (codes "-") (verdict_line verdict.now)) }
-    ensures calm { OnOk result (((D.seen desk.new).outputs Output.Fore).faults ≡ ((D.seen desk.old).outputs Output.Fore).faults) }
+    ensures calls { (asked : Asked) → asked.outputs Output.Fore ≡ Some (codes "-")
+        → Ends asked result (D.seen desk.old).calls (D.seen desk.new).calls }
     ensures stops { IfErr result (StopsText Output.Fore (codes "-") (verdict_line verdict.now) (D.seen desk.old) (D.seen desk.new)) }
 {
     write_made(desk, Output::Fore, "-", verdict_line(alloc, verdict))

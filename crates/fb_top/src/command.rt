@@ -8,8 +8,8 @@ ghost use Rattle.fb_top.specs.Complete.{IsComplete};
 ghost use Rattle.fb_top.specs.Noted.{LeavesNote};
 ghost use Rattle.fb_top.specs.Unnamed.{LeavesUnnamed};
 ghost use Rattle.fb_top.specs.Opened.{OpensNamed};
-ghost use Rattle.fb_top.specs.Calm.{MeetsNoFault};
 ghost use Rattle.fb_top.specs.Ended.{EndsWith};
+ghost use Rattle.fb_top.specs.Called.{EndsAs, EndsWithNote, asked_by};
 
 use crate::array::run_array;
 use crate::check::run_check;
@@ -51,7 +51,8 @@ pub fn run_command<D: Desk>(alloc: Global, desk: &mut D, words: &[String]) -> Ou
     ensures complete { IsComplete (command_of (map string_bytes words.now)) (D.seen desk.old) (D.seen desk.new) result }
     ensures unnamed { LeavesUnnamed (command_of (map string_bytes words.now)) (D.seen desk.old) (D.seen desk.new) }
     ensures opened { OpensNamed (command_of (map string_bytes words.now)) (D.seen desk.old) (D.seen desk.new) }
-    ensures calm { MeetsNoFault result (D.seen desk.old) (D.seen desk.new) }
+    ensures calls { EndsWithNote (asked_by (command_of (map string_bytes words.now))) result
+        (D.seen desk.old).calls (D.seen desk.new).calls }
     ensures note { LeavesNote result ((D.seen desk.old).outputs Output.Note) ((D.seen desk.new).outputs Output.Note) }
 {
     let outcome = answer_words(alloc, desk, words);
@@ -74,7 +75,8 @@ fn answer_words<D: Desk>(alloc: Global, desk: &mut D, words: &[String]) -> Outco
     ensures answers { AnswersWords (command_of (map string_bytes words.now)) (D.seen desk.old) (D.seen desk.new) result }
     ensures unnamed { LeavesUnnamed (command_of (map string_bytes words.now)) (D.seen desk.old) (D.seen desk.new) }
     ensures opened { OpensNamed (command_of (map string_bytes words.now)) (D.seen desk.old) (D.seen desk.new) }
-    ensures calm { MeetsNoFault result (D.seen desk.old) (D.seen desk.new) }
+    ensures calls { EndsAs (asked_by (command_of (map string_bytes words.now))) result
+        (D.seen desk.old).calls (D.seen desk.new).calls }
     ensures no_note { (D.seen desk.new).outputs Output.Note ≡ (D.seen desk.old).outputs Output.Note }
 {
     match read_words(alloc, words) {

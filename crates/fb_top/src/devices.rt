@@ -15,7 +15,6 @@ ghost use Rattle.fb_model.specs.Accepted.{IsAccepted};
 ghost use Rattle.fb_words.specs.Command.{arrays};
 ghost use Rattle.fb_words.specs.Limits.{IsWithinLimits};
 ghost use Rattle.fb_words.specs.Verdict.{array_terms};
-ghost use Rattle.fb_top.specs.Calm.{AreInputsCalm};
 ghost use Rattle.fb_top.specs.Devices.{AcceptsArray, ReadsRebuild, ReadsTraces, StopsArray, StopsRebuild, StopsTraces, array_of};
 ghost use Rattle.fb_top.specs.Devices.{device_inputs, is_rebuilt_from};
 ghost use Rattle.fb_top.specs.Opened.{IsOpenedAs, OpensAsNamed};
@@ -23,6 +22,7 @@ ghost use Rattle.fb_top.specs.Read.{ReadsDisk};
 ghost use Rattle.fb_top.specs.Names.{array_names};
 ghost use Rattle.fb_top.specs.Taken.{KeepsOutputs};
 ghost use Rattle.fb_top.specs.Unnamed.{KeepsUnnamed};
+ghost use Rattle.fb_top.specs.Called.{Asked, Ends, array_asks};
 
 use crate::Outcome;
 use crate::reading::{no_calls, read_disk, read_input};
@@ -77,7 +77,7 @@ pub fn read_array<D: Desk>(
     ensures cause { IfErr result (StopsArray (array_terms words.now) (D.seen desk.old) (D.seen desk.new)) }
     ensures unnamed { KeepsUnnamed (array_names (array_terms words.now)) (D.seen desk.old) (D.seen desk.new) }
     ensures opened { OpensAsNamed (array_names (array_terms words.now)) (D.seen desk.old) (D.seen desk.new) }
-    ensures calm { IfOk result (λ _. AreInputsCalm (D.seen desk.old) (D.seen desk.new)) }
+    ensures calls { Ends (array_asks (array_terms words.now)) result (D.seen desk.old).calls (D.seen desk.new).calls }
 {
     let params = match read_disk(alloc, desk, words.params.as_str()) {
         Ok(params) => params,
@@ -108,7 +108,8 @@ fn read_workloads<D: Desk>(
     requires limits { IsWithinLimits (arrays (array_terms words.now)) }
     ensures only { ChangesInput Input.Trace (D.seen desk.old) (D.seen desk.new) }
     ensures opened { IsOpenedAs (array_terms words.now).trace (D.seen desk.old) ((D.seen desk.new).inputs Input.Trace) }
-    ensures calm { IfOk result (λ _. ((D.seen desk.new).inputs Input.Trace).faults ≡ ((D.seen desk.old).inputs Input.Trace).faults) }
+    ensures calls { (asked : Asked) → asked.inputs Input.Trace ≡ Some (array_terms words.now).trace
+        → Ends asked result (D.seen desk.old).calls (D.seen desk.new).calls }
     ensures traces { IfOk result (λ workloads. ReadsTraces (D.seen desk.old) (array_terms words.now).trace
         (array_terms words.now).devices disk.now (map accepted workloads.traces.items)) }
     ensures servable { IfOk result
@@ -142,7 +143,8 @@ fn read_devices<D: Desk>(
     requires { ((D.seen desk.old).inputs Input.Trace).opened ≡ false }
     ensures only { ChangesInput Input.Trace (D.seen desk.old) (D.seen desk.new) }
     ensures opened { IsOpenedAs name.now (D.seen desk.old) ((D.seen desk.new).inputs Input.Trace) }
-    ensures calm { IfOk result (λ _. ((D.seen desk.new).inputs Input.Trace).faults ≡ ((D.seen desk.old).inputs Input.Trace).faults) }
+    ensures calls { (asked : Asked) → asked.inputs Input.Trace ≡ Some name.now
+        → Ends asked result (D.seen desk.old).calls (D.seen desk.new).calls }
     ensures traces { IfOk result (λ traces. ReadsTraces (D.seen desk.old) name.now devices disk.now (map accepted traces.items)) }
     ensures servable { IfOk result
         (λ traces. AllByRecursion (λ trace. IsTraceOf (length (places disk.now.map)) trace.requests.items) traces.items) }

@@ -1,5 +1,5 @@
 // The command that makes a trace and a call script for a disk.
-ghost use Rattle.std.specs.Prelude.{◌≡◌, ◌≤◌, ◌^◌, List, ℕ, false, OnOk, IfErr};
+ghost use Rattle.std.specs.Prelude.{◌≡◌, ◌≤◌, ◌^◌, List, ℕ, Some, false, OnOk, IfErr};
 ghost use Rattle.std.specs.String.{string_bytes};
 ghost use Rattle.fb_desk.specs.View.{DeskView, IsUnused};
 ghost use Rattle.fb_desk.specs.Calls.{ChangesInput, ChangesOutput};
@@ -13,9 +13,9 @@ ghost use Rattle.fb_top.specs.Causes.{KeepsLater};
 ghost use Rattle.fb_top.specs.Make.{MakeHasCause};
 ghost use Rattle.fb_top.specs.Read.{ReadsDisk};
 ghost use Rattle.fb_top.specs.Opened.{IsOpenedAs};
-ghost use Rattle.fb_top.specs.Calm.{MeetsNoFault};
 ghost use Rattle.fb_top.specs.Unnamed.{KeepsInputs};
 ghost use Rattle.fb_top.specs.Written.{HoldsWhole, StopsText};
+ghost use Rattle.fb_top.specs.Called.{Asked, Ends, EndsAs, make_asks};
 
 use crate::Outcome;
 use crate::reading::read_disk;
@@ -36,7 +36,7 @@ pub fn run_make<D: Desk>(alloc: Global, desk: &mut D, words: &MakeWords) -> Outc
     ensures cause { MakeHasCause (make_terms words.now) (D.seen desk.old) (D.seen desk.new) result }
     ensures unnamed { KeepsLater Input.Params (D.seen desk.old) (D.seen desk.new) }
     ensures opened { IsOpenedAs (make_terms words.now).params (D.seen desk.old) ((D.seen desk.new).inputs Input.Params) }
-    ensures calm { MeetsNoFault result (D.seen desk.old) (D.seen desk.new) }
+    ensures calls { EndsAs (make_asks (make_terms words.now)) result (D.seen desk.old).calls (D.seen desk.new).calls }
     ensures no_note { (D.seen desk.new).outputs Output.Note ≡ (D.seen desk.old).outputs Output.Note }
 {
     match read_disk(alloc, desk, words.params.as_str()) {
@@ -52,7 +52,7 @@ fn make_for<D: Desk>(alloc: Global, desk: &mut D, words: &MakeWords, disk: &Disk
     requires limits { IsWithinLimits (makes (make_terms words.now)) }
     ensures cause { (first : DeskView) (latent : List ℕ) → ReadsDisk first (make_terms words.now).params disk.now latent
         → ChangesInput Input.Params first (D.seen desk.old) → MakeHasCause (make_terms words.now) first (D.seen desk.new) result }
-    ensures calm { MeetsNoFault result (D.seen desk.old) (D.seen desk.new) }
+    ensures calls { EndsAs (make_asks (make_terms words.now)) result (D.seen desk.old).calls (D.seen desk.new).calls }
     ensures no_note { (D.seen desk.new).outputs Output.Note ≡ (D.seen desk.old).outputs Output.Note }
     ensures inputs { KeepsInputs (D.seen desk.old) (D.seen desk.new) }
 {
@@ -84,7 +84,7 @@ fn write_trace<D: Desk>(
     ensures only { ChangesOutput Output.MadeTrace (D.seen desk.old) (D.seen desk.new) }
     ensures whole { OnOk result (HoldsWhole ((D.seen desk.new).outputs Output.MadeTrace) (string_bytes words.now.trace)
         (made_trace words.now.number words.now.device sectors words.now.requests)) }
-    ensures calm { OnOk result (((D.seen desk.new).outputs Output.MadeTrace).faults ≡ ((D.seen desk.old).outputs Output.MadeTrace).faults) }
+    ensures calls { Ends (make_asks (make_terms words.now)) result (D.seen desk.old).calls (D.seen desk.new).calls }
     ensures stops { IfErr result (StopsText Output.MadeTrace (string_bytes words.now.trace)
         (made_trace words.now.number words.now.device sectors words.now.requests) (D.seen desk.old) (D.seen desk.new)) }
 {
@@ -116,7 +116,8 @@ fn write_calls<D: Desk>(
     requires fresh { ((D.seen desk.old).outputs Output.MadeCalls).begun ≡ false }
     ensures only { ChangesOutput Output.MadeCalls (D.seen desk.old) (D.seen desk.new) }
     ensures whole { OnOk result (HoldsWhole ((D.seen desk.new).outputs Output.MadeCalls) name.now (script_text map.now)) }
-    ensures calm { OnOk result (((D.seen desk.new).outputs Output.MadeCalls).faults ≡ ((D.seen desk.old).outputs Output.MadeCalls).faults) }
+    ensures calls { (asked : Asked) → asked.outputs Output.MadeCalls ≡ Some name.now
+        → Ends asked result (D.seen desk.old).calls (D.seen desk.new).calls }
     ensures stops { IfErr result (StopsText Output.MadeCalls name.now (script_text map.now) (D.seen desk.old) (D.seen desk.new)) }
 {
     write_made(desk, Output::MadeCalls, name, made_calls(alloc, map))

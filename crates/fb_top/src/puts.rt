@@ -1,5 +1,5 @@
 // The puts that are to be written beside a replay.
-ghost use Rattle.std.specs.Prelude.{◌≡◌, None, false, IfErr, IfOk, IfSome};
+ghost use Rattle.std.specs.Prelude.{◌≡◌, None, Some, false, IfErr, IfOk, IfSome};
 ghost use Rattle.std.specs.Option.{option_map};
 ghost use Rattle.fb_puts.specs.Verdict.{accepted};
 ghost use Rattle.fb_desk.specs.Calls.{ChangesInput};
@@ -7,6 +7,7 @@ ghost use Rattle.fb_top.specs.Causes.{StopsGivenPuts, StopsPuts};
 ghost use Rattle.fb_top.specs.Opened.{IsOpenedAs};
 ghost use Rattle.fb_top.specs.Read.{AcceptsPuts, ReadsPuts, files_of};
 ghost use Rattle.fb_top.specs.Spilled.{CanBeSpilled};
+ghost use Rattle.fb_top.specs.Called.{Asked, Ends};
 
 use crate::Outcome;
 use crate::reading::{RunFiles, read_input};
@@ -27,7 +28,8 @@ pub fn read_given_puts<D: Desk>(
     ensures only { ChangesInput Input.Puts (D.seen desk.old) (D.seen desk.new) }
     ensures opened { IfSome (option_map (λ given. given.now) name.entry)
         (λ given. IsOpenedAs given (D.seen desk.old) ((D.seen desk.new).inputs Input.Puts)) }
-    ensures calm { IfOk result (λ _. ((D.seen desk.new).inputs Input.Puts).faults ≡ ((D.seen desk.old).inputs Input.Puts).faults) }
+    ensures calls { (asked : Asked) → asked.inputs Input.Puts ≡ option_map (λ given. given.now) name.entry
+        → Ends asked result (D.seen desk.old).calls (D.seen desk.new).calls }
     ensures unnamed { option_map (λ given. given.now) name.entry ≡ None
         → (D.seen desk.new).inputs Input.Puts ≡ (D.seen desk.old).inputs Input.Puts }
     ensures puts { IfOk result (λ puts.
@@ -55,7 +57,8 @@ fn read_named_puts<D: Desk>(
     requires { ((D.seen desk.old).inputs Input.Puts).opened ≡ false }
     ensures only { ChangesInput Input.Puts (D.seen desk.old) (D.seen desk.new) }
     ensures opened { IsOpenedAs name.now (D.seen desk.old) ((D.seen desk.new).inputs Input.Puts) }
-    ensures calm { IfOk result (λ _. ((D.seen desk.new).inputs Input.Puts).faults ≡ ((D.seen desk.old).inputs Input.Puts).faults) }
+    ensures calls { (asked : Asked) → asked.inputs Input.Puts ≡ Some name.now
+        → Ends asked result (D.seen desk.old).calls (D.seen desk.new).calls }
     ensures puts { IfOk result (λ puts. ReadsPuts (D.seen desk.old) name.now (files_of files.now) (accepted puts)) }
     ensures fit { IfOk result (λ puts. CanBeSpilled (files_of files.now) (accepted puts)) }
     ensures stops { IfErr result (StopsPuts name.now (files_of files.now) (D.seen desk.old) (D.seen desk.new)) }

@@ -1,5 +1,5 @@
 // The inputs of a replay or a check, each read whole and judged before the next.
-ghost use Rattle.std.specs.Prelude.{◌≡◌, List, ℕ, ◌<◌, ◌≤◌, ◌^◌, [], None, false, length, IfOk, IfErr, IfSome};
+ghost use Rattle.std.specs.Prelude.{◌≡◌, List, ℕ, ◌<◌, ◌≤◌, ◌^◌, [], None, Some, false, length, IfOk, IfErr, IfSome};
 ghost use Rattle.std.specs.List.{AllByRecursion};
 ghost use Rattle.std.specs.Option.{option_map};
 ghost use Rattle.fb_geometry.specs.Places.{places};
@@ -21,7 +21,7 @@ ghost use Rattle.fb_top.specs.Taken.{KeepsOutputs, files_on};
 ghost use Rattle.fb_top.specs.Unnamed.{KeepsUnnamed};
 ghost use Rattle.fb_top.specs.Opened.{IsOpenedAs, OpensAsNamed};
 ghost use Rattle.fb_top.specs.Streams.{IsHeld};
-ghost use Rattle.fb_top.specs.Calm.{AreInputsCalm};
+ghost use Rattle.fb_top.specs.Called.{Asked, AsksFiles, Ends};
 
 use crate::Outcome;
 use crate::streams::{InputError, read_whole};
@@ -103,7 +103,8 @@ pub fn read_files<D: Desk>(
     ensures cause { IfErr result (StopsInputs (files_alone (file_names named.now)) (D.seen desk.old) (D.seen desk.new)) }
     ensures unnamed { KeepsUnnamed (files_alone (file_names named.now)) (D.seen desk.old) (D.seen desk.new) }
     ensures opened { OpensAsNamed (files_alone (file_names named.now)) (D.seen desk.old) (D.seen desk.new) }
-    ensures calm { IfOk result (λ _. AreInputsCalm (D.seen desk.old) (D.seen desk.new)) }
+    ensures calls { (asked : Asked) → AsksFiles asked (file_names named.now)
+        → Ends asked result (D.seen desk.old).calls (D.seen desk.new).calls }
 {
     let params = match read_disk(alloc, desk, named.params) {
         Ok(params) => params,
@@ -147,8 +148,8 @@ fn read_workload<D: Desk>(
     ensures opened { (first : DeskView) → IsUnused first → ChangesInput Input.Params first (D.seen desk.old)
         → IsOpenedAs (file_names named.now).params first ((D.seen desk.old).inputs Input.Params)
         → OpensAsNamed (files_alone (file_names named.now)) first (D.seen desk.new) }
-    ensures calm { IfOk result (λ _. (first : DeskView) → ChangesInput Input.Params first (D.seen desk.old)
-        → ((D.seen desk.old).inputs Input.Params).faults ≡ (first.inputs Input.Params).faults → AreInputsCalm first (D.seen desk.new)) }
+    ensures calls { (asked : Asked) → AsksFiles asked (file_names named.now)
+        → Ends asked result (D.seen desk.old).calls (D.seen desk.new).calls }
 {
     let trace = match read_requests(alloc, desk, named.trace, named.device, disk) {
         Ok(trace) => trace,
@@ -174,7 +175,8 @@ pub fn read_input<D: Desk>(
     requires fresh { ((D.seen desk.old).inputs which).opened ≡ false }
     ensures only { ChangesInput which (D.seen desk.old) (D.seen desk.new) }
     ensures opened { IsOpenedAs name.now (D.seen desk.old) ((D.seen desk.new).inputs which) }
-    ensures calm { IfOk result (λ _. ((D.seen desk.new).inputs which).faults ≡ ((D.seen desk.old).inputs which).faults) }
+    ensures calls { (asked : Asked) → asked.inputs which ≡ Some name.now
+        → Ends asked result (D.seen desk.old).calls (D.seen desk.new).calls }
     ensures whole { IfOk result (λ bytes. IsHeld (D.seen desk.old) name.now bytes.items) }
     ensures few { IfOk result (λ bytes. length bytes.items ≤ limit_of which) }
     ensures stops { IfErr result (StopsReading which name.now (D.seen desk.old) (D.seen desk.new)) }
@@ -209,7 +211,8 @@ pub fn read_disk<D: Desk>(alloc: Global, desk: &mut D, name: &str) -> Result<Par
     requires { ((D.seen desk.old).inputs Input.Params).opened ≡ false }
     ensures only { ChangesInput Input.Params (D.seen desk.old) (D.seen desk.new) }
     ensures opened { IsOpenedAs name.now (D.seen desk.old) ((D.seen desk.new).inputs Input.Params) }
-    ensures calm { IfOk result (λ _. ((D.seen desk.new).inputs Input.Params).faults ≡ ((D.seen desk.old).inputs Input.Params).faults) }
+    ensures calls { (asked : Asked) → asked.inputs Input.Params ≡ Some name.now
+        → Ends asked result (D.seen desk.old).calls (D.seen desk.new).calls }
     ensures disk { IfOk result (λ params. ReadsDisk (D.seen desk.old) name.now params.disk params.latent.items) }
     ensures latent { IfOk result (λ params. AllByRecursion (λ lbn. lbn < length (places params.disk.map)) params.latent.items) }
     ensures stops { IfErr result (StopsDisk name.now (D.seen desk.old) (D.seen desk.new)) }
@@ -236,7 +239,8 @@ fn read_requests<D: Desk>(
     requires { ((D.seen desk.old).inputs Input.Trace).opened ≡ false }
     ensures only { ChangesInput Input.Trace (D.seen desk.old) (D.seen desk.new) }
     ensures opened { IsOpenedAs name.now (D.seen desk.old) ((D.seen desk.new).inputs Input.Trace) }
-    ensures calm { IfOk result (λ _. ((D.seen desk.new).inputs Input.Trace).faults ≡ ((D.seen desk.old).inputs Input.Trace).faults) }
+    ensures calls { (asked : Asked) → asked.inputs Input.Trace ≡ Some name.now
+        → Ends asked result (D.seen desk.old).calls (D.seen desk.new).calls }
     ensures trace { IfOk result (λ trace. ReadsTrace (D.seen desk.old) name.now device disk.now (accepted trace)) }
     ensures servable { IfOk result (λ trace. IsTraceOf (length (places disk.now.map)) trace.requests.items) }
     ensures stops { IfErr result (StopsTrace name.now device disk.now (D.seen desk.old) (D.seen desk.new)) }
@@ -264,7 +268,8 @@ fn read_script<D: Desk>(
     ensures only { ChangesInput Input.Calls (D.seen desk.old) (D.seen desk.new) }
     ensures opened { IfSome (option_map (λ given. given.now) name.entry)
         (λ given. IsOpenedAs given (D.seen desk.old) ((D.seen desk.new).inputs Input.Calls)) }
-    ensures calm { IfOk result (λ _. ((D.seen desk.new).inputs Input.Calls).faults ≡ ((D.seen desk.old).inputs Input.Calls).faults) }
+    ensures calls { (asked : Asked) → asked.inputs Input.Calls ≡ option_map (λ given. given.now) name.entry
+        → Ends asked result (D.seen desk.old).calls (D.seen desk.new).calls }
     ensures unnamed { option_map (λ given. given.now) name.entry ≡ None
         → (D.seen desk.new).inputs Input.Calls ≡ (D.seen desk.old).inputs Input.Calls }
     ensures script { IfOk result
@@ -291,7 +296,8 @@ fn read_named_script<D: Desk>(
     requires { ((D.seen desk.old).inputs Input.Calls).opened ≡ false }
     ensures only { ChangesInput Input.Calls (D.seen desk.old) (D.seen desk.new) }
     ensures opened { IsOpenedAs name.now (D.seen desk.old) ((D.seen desk.new).inputs Input.Calls) }
-    ensures calm { IfOk result (λ _. ((D.seen desk.new).inputs Input.Calls).faults ≡ ((D.seen desk.old).inputs Input.Calls).faults) }
+    ensures calls { (asked : Asked) → asked.inputs Input.Calls ≡ Some name.now
+        → Ends asked result (D.seen desk.old).calls (D.seen desk.new).calls }
     ensures script { IfOk result (λ calls. ReadsCalls (D.seen desk.old) name.now disk.now traced (accepted_calls calls)) }
     ensures fit { IfOk result (λ calls. IsScript disk.now.map traced calls.calls.items) }
     ensures names { IfOk result (λ calls. length calls.names ≡ length (tasks calls.calls.items)) }
@@ -331,8 +337,8 @@ pub fn read_printed<D: Desk>(
     requires { ((D.seen desk.old).inputs report).opened ≡ false }
     ensures only { ChangesInput report (D.seen desk.old) (D.seen desk.new) }
     ensures opened { IsOpenedAs name.now (D.seen desk.old) ((D.seen desk.new).inputs report) }
-    ensures calm { IfOk result
-        (λ _. ((D.seen desk.new).inputs report).faults ≡ ((D.seen desk.old).inputs report).faults) }
+    ensures calls { (asked : Asked) → asked.inputs report ≡ Some name.now
+        → Ends asked result (D.seen desk.old).calls (D.seen desk.new).calls }
     ensures whole { IfOk result (λ bytes. IsHeld (D.seen desk.old) name.now bytes.items) }
     ensures few { IfOk result (λ bytes. length bytes.items ≤ limit_of report) }
     ensures stops { IfErr result (StopsReport report name.now (D.seen desk.old) (D.seen desk.new)) }

@@ -10,7 +10,6 @@ ghost use Rattle.fb_desk.specs.View.{DeskView, IsUnused};
 ghost use Rattle.fb_desk.specs.declared.desk.Output.{Output};
 ghost use Rattle.fb_words.specs.Command.{go_together};
 ghost use Rattle.fb_words.specs.Verdict.{replay_terms};
-ghost use Rattle.fb_top.specs.Calm.{AreOutputsCalm, MeetsNoFault};
 ghost use Rattle.fb_top.specs.Causes.{HasCause};
 ghost use Rattle.fb_top.specs.Done.{AreReadBack, CanBeRead, CanBeTold};
 ghost use Rattle.fb_top.specs.Opened.{OpensAsNamed};
@@ -19,6 +18,7 @@ ghost use Rattle.fb_top.specs.Names.{replay_names};
 ghost use Rattle.fb_top.specs.Spilled.{CanBeSpilled, HoldsReplay, IsRunOfFiles, StopsReplay, WritesGiven};
 ghost use Rattle.fb_top.specs.Taken.{TakesReplay, done_as};
 ghost use Rattle.fb_top.specs.Unnamed.{KeepsInputs, KeepsUnnamed};
+ghost use Rattle.fb_top.specs.Called.{Ends, EndsAs, replay_asks};
 
 use crate::Outcome;
 use crate::policy::replay_by;
@@ -43,7 +43,7 @@ pub fn run_replay<D: Desk>(alloc: Global, desk: &mut D, words: &ReplayWords) -> 
     ensures cause { HasCause (replay_terms words.now) (D.seen desk.old) (D.seen desk.new) result }
     ensures unnamed { KeepsUnnamed (replay_names (replay_terms words.now)) (D.seen desk.old) (D.seen desk.new) }
     ensures opened { OpensAsNamed (replay_names (replay_terms words.now)) (D.seen desk.old) (D.seen desk.new) }
-    ensures calm { MeetsNoFault result (D.seen desk.old) (D.seen desk.new) }
+    ensures calls { EndsAs (replay_asks (replay_terms words.now)) result (D.seen desk.old).calls (D.seen desk.new).calls }
     ensures no_note { (D.seen desk.new).outputs Output.Note ≡ (D.seen desk.old).outputs Output.Note }
 {
     match read_replay_inputs(alloc, desk, words) {
@@ -67,7 +67,7 @@ fn replay_and_write<D: Desk>(
     ensures cause { (first : DeskView)
         → TakesReplay (replay_terms words.now) (files_of read.now.files) (option_map accepted read.now.puts) first (D.seen desk.old)
         → HasCause (replay_terms words.now) first (D.seen desk.new) result }
-    ensures calm { MeetsNoFault result (D.seen desk.old) (D.seen desk.new) }
+    ensures calls { EndsAs (replay_asks (replay_terms words.now)) result (D.seen desk.old).calls (D.seen desk.new).calls }
     ensures no_note { (D.seen desk.new).outputs Output.Note ≡ (D.seen desk.old).outputs Output.Note }
     ensures inputs { KeepsInputs (D.seen desk.old) (D.seen desk.new) }
 {
@@ -130,7 +130,7 @@ fn write_replay<D: Desk>(
         (option_map (λ spill. spill.now) spill.entry) (D.seen desk.old) (D.seen desk.new)) }
     ensures stops { IfErr result (StopsReplay (replay_terms words.now) (files_of files.now) run.now
         (option_map (λ spill. spill.now) spill.entry) (D.seen desk.old) (D.seen desk.new)) }
-    ensures calm { OnOk result (AreOutputsCalm (D.seen desk.old) (D.seen desk.new)) }
+    ensures calls { Ends (replay_asks (replay_terms words.now)) result (D.seen desk.old).calls (D.seen desk.new).calls }
     ensures read { OnOk result (CanBeRead (files_of files.now) run.now
         → AreReadBack (replay_terms words.now) (files_of files.now) run.now) }
     ensures no_note { (D.seen desk.new).outputs Output.Note ≡ (D.seen desk.old).outputs Output.Note }

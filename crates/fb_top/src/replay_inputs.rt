@@ -7,7 +7,6 @@ ghost use Rattle.fb_desk.specs.View.{IsUnused};
 ghost use Rattle.fb_geometry.specs.Sound.{IsSound};
 ghost use Rattle.fb_model.specs.Accepted.{IsAccepted};
 ghost use Rattle.fb_words.specs.Verdict.{replay_terms};
-ghost use Rattle.fb_top.specs.Calm.{AreInputsCalm};
 ghost use Rattle.fb_top.specs.Causes.{StopsInputs};
 ghost use Rattle.fb_top.specs.Opened.{OpensAsNamed};
 ghost use Rattle.fb_top.specs.Read.{Accepts, AcceptsPuts, files_of, inputs_of_files, key_of};
@@ -15,6 +14,7 @@ ghost use Rattle.fb_top.specs.Names.{replay_names, replay_file_names, file_names
 ghost use Rattle.fb_top.specs.Spilled.{CanBeSpilled};
 ghost use Rattle.fb_top.specs.Taken.{KeepsOutputs};
 ghost use Rattle.fb_top.specs.Unnamed.{KeepsUnnamed};
+ghost use Rattle.fb_top.specs.Called.{Ends, replay_asks};
 
 use crate::Outcome;
 use crate::puts::read_given_puts;
@@ -56,7 +56,7 @@ pub fn read_replay_inputs<D: Desk>(
     ensures cause { IfErr result (StopsInputs (replay_names (replay_terms words.now)) (D.seen desk.old) (D.seen desk.new)) }
     ensures unnamed { KeepsUnnamed (replay_names (replay_terms words.now)) (D.seen desk.old) (D.seen desk.new) }
     ensures opened { OpensAsNamed (replay_names (replay_terms words.now)) (D.seen desk.old) (D.seen desk.new) }
-    ensures calm { IfOk result (λ _. AreInputsCalm (D.seen desk.old) (D.seen desk.new)) }
+    ensures calls { Ends (replay_asks (replay_terms words.now)) result (D.seen desk.old).calls (D.seen desk.new).calls }
 {
     let files = match read_files(alloc, desk, &named_files(words)) {
         Ok(files) => files,

@@ -1,5 +1,5 @@
 // The reports of a run that the words ask for.
-ghost use Rattle.std.specs.Prelude.{◌≡◌, false, codes, IfErr, OnOk};
+ghost use Rattle.std.specs.Prelude.{◌≡◌, Some, false, codes, IfErr, OnOk};
 ghost use Rattle.fb_report.specs.Back.{back_lines, back_text};
 ghost use Rattle.fb_report.specs.Fore.{fore_lines};
 ghost use Rattle.fb_report.specs.Grammar.{back_grammar, fore_grammar};
@@ -11,7 +11,7 @@ ghost use Rattle.fb_top.specs.Read.{files_of};
 ghost use Rattle.fb_top.specs.Written.{HoldsWhole, StopsText};
 ghost use Rattle.fb_top.specs.Done.{AreReadBack, CanBeRead, CanBeTold, HoldsReports, StopsReports, fore_told};
 ghost use Rattle.fb_top.specs.Unnamed.{KeepsInputs};
-ghost use Rattle.fb_top.specs.Calm.{AreOutputsCalm};
+ghost use Rattle.fb_top.specs.Called.{Asked, Ends, replay_asks};
 
 use crate::Outcome;
 use crate::lines::{BackLines, ForeLines};
@@ -39,7 +39,7 @@ pub fn write_reports<D: Desk>(
     requires told { CanBeTold files.now.calls.names run.now }
     ensures whole { OnOk result (HoldsReports (replay_terms words.now) (files_of files.now) run.now (D.seen desk.old) (D.seen desk.new)) }
     ensures stops { IfErr result (StopsReports (replay_terms words.now) (files_of files.now) run.now (D.seen desk.old) (D.seen desk.new)) }
-    ensures calm { OnOk result (AreOutputsCalm (D.seen desk.old) (D.seen desk.new)) }
+    ensures calls { Ends (replay_asks (replay_terms words.now)) result (D.seen desk.old).calls (D.seen desk.new).calls }
     ensures read { OnOk result (CanBeRead (files_of files.now) run.now
         → AreReadBack (replay_terms words.now) (files_of files.now) run.now) }
     ensures no_note { (D.seen desk.new).outputs Output.Note ≡ (D.seen desk.old).outputs Output.Note }
@@ -68,7 +68,7 @@ fn write_fore<D: Desk>(
     ensures only { ChangesOutput Output.Fore (D.seen desk.old) (D.seen desk.new) }
     ensures whole { OnOk result
         (HoldsWhole ((D.seen desk.new).outputs Output.Fore) (codes "-") (fore_told (replay_terms words.now) (files_of files.now) run.now)) }
-    ensures calm { OnOk result (((D.seen desk.new).outputs Output.Fore).faults ≡ ((D.seen desk.old).outputs Output.Fore).faults) }
+    ensures calls { Ends (replay_asks (replay_terms words.now)) result (D.seen desk.old).calls (D.seen desk.new).calls }
     ensures read { OnOk result (CanBeRead (files_of files.now) run.now → (replay_terms words.now).summary ≡ false
         → IsReadBack fore_grammar (fore_lines files.now.params.disk.sector_bytes words.now.bytes run.now)) }
     ensures stops { IfErr result (StopsText Output.Fore (codes "-") (fore_told (replay_terms words.now) (files_of files.now) run.now)
@@ -90,7 +90,8 @@ fn write_summary<D: Desk>(alloc: Global, desk: &mut D, run: &Run) -> Result<(), 
     requires fresh { ((D.seen desk.old).outputs Output.Fore).begun ≡ false }
     ensures only { ChangesOutput Output.Fore (D.seen desk.old) (D.seen desk.new) }
     ensures whole { OnOk result (HoldsWhole ((D.seen desk.new).outputs Output.Fore) (codes "-") (summary_text run.now)) }
-    ensures calm { OnOk result (((D.seen desk.new).outputs Output.Fore).faults ≡ ((D.seen desk.old).outputs Output.Fore).faults) }
+    ensures calls { (asked : Asked) → asked.outputs Output.Fore ≡ Some (codes "-")
+        → Ends asked result (D.seen desk.old).calls (D.seen desk.new).calls }
     ensures stops { IfErr result (StopsText Output.Fore (codes "-") (summary_text run.now) (D.seen desk.old) (D.seen desk.new)) }
 {
     write_made(desk, Output::Fore, "-", summary_text(alloc, run))
@@ -110,7 +111,8 @@ fn write_back<D: Desk>(
     ensures only { ChangesOutput Output.Back (D.seen desk.old) (D.seen desk.new) }
     ensures whole { OnOk result (HoldsWhole ((D.seen desk.new).outputs Output.Back) name.now
         (back_text files.now.calls.names files.now.params.disk.sector_bytes bytes run.now)) }
-    ensures calm { OnOk result (((D.seen desk.new).outputs Output.Back).faults ≡ ((D.seen desk.old).outputs Output.Back).faults) }
+    ensures calls { (asked : Asked) → asked.outputs Output.Back ≡ Some name.now
+        → Ends asked result (D.seen desk.old).calls (D.seen desk.new).calls }
     ensures read { OnOk result (CanBeRead (files_of files.now) run.now
         → IsReadBack back_grammar (back_lines files.now.calls.names files.now.params.disk.sector_bytes bytes run.now)) }
     ensures stops { IfErr result (StopsText Output.Back name.now

@@ -1,6 +1,7 @@
 // Reads inputs whole, and writes outputs whole.
-ghost use Rattle.std.specs.Prelude.{◌≡◌, ◌<◌, ◌≤◌, ◌^◌, true, false, length, IfOk, OnOk, OnErr, IsErrOf};
+ghost use Rattle.std.specs.Prelude.{◌≡◌, ◌<◌, ◌≤◌, ◌^◌, Some, true, false, length, is_some, IfOk, OnOk, OnErr, IsErrOf};
 ghost use Rattle.fb_desk.specs.Calls.{Rose, HasCause, ChangesInput, ChangesOutput, behind};
+ghost use Rattle.fb_top.specs.Called.{Asked, EndsReading, EndsWriting};
 ghost use Rattle.fb_top.specs.Opened.{IsOpenedAs};
 ghost use Rattle.fb_top.specs.Streams.{AppendsFront, IsHeld, IsLonger};
 
@@ -58,7 +59,8 @@ pub fn read_whole<D: Desk>(
     requires fresh { ((D.seen desk.old).inputs which).opened ≡ false }
     requires room { limit < 2 ^ 40 }
     ensures only { ChangesInput which (D.seen desk.old) (D.seen desk.new) }
-    ensures calm { IfOk result (λ _. ((D.seen desk.new).inputs which).faults ≡ ((D.seen desk.old).inputs which).faults) }
+    ensures calls { (asked : Asked) → asked.inputs which ≡ Some name.now
+        → EndsReading asked which result (D.seen desk.old).calls (D.seen desk.new).calls }
     ensures opened { IsOpenedAs name.now (D.seen desk.old) ((D.seen desk.new).inputs which) }
     ensures whole { IfOk result (λ bytes. IsHeld (D.seen desk.old) name.now bytes.items) }
     ensures few { IfOk result (λ bytes. length bytes.items ≤ limit) }
@@ -89,6 +91,8 @@ pub fn write_whole<D: Desk>(desk: &mut D, which: Output, text: &[u8]) -> Result<
     ensures begun { ((D.seen desk.new).outputs which).begun ≡ true }
     ensures name { ((D.seen desk.new).outputs which).name ≡ ((D.seen desk.old).outputs which).name }
     ensures whole { OnOk result (((D.seen desk.new).outputs which).written ≡ behind ((D.seen desk.old).outputs which).written text.now) }
+    ensures calls { (asked : Asked) → is_some (asked.outputs which) ≡ true
+        → EndsWriting asked which result (D.seen desk.old).calls (D.seen desk.new).calls }
     ensures front { OnErr result
         (AppendsFront ((D.seen desk.old).outputs which).written ((D.seen desk.new).outputs which).written text.now) }
 {

@@ -1,10 +1,11 @@
 // Writes texts, whole or line by line, and the note.
-ghost use Rattle.std.specs.Prelude.{◌≡◌, ◌≢◌, ℕ, List, false, Err, IfErr, IfOk, OnErr, OnOk};
+ghost use Rattle.std.specs.Prelude.{◌≡◌, ◌≢◌, ℕ, List, Some, false, Err, IfErr, IfOk, OnErr, OnOk};
 ghost use Rattle.fb_desk.specs.Calls.{ChangesOutput};
 ghost use Rattle.fb_report.specs.Printed.{IsReadBack};
 ghost use Rattle.fb_top.specs.Noted.{LeavesNote, TellsNote};
 ghost use Rattle.fb_top.specs.Notes.{note_of};
 ghost use Rattle.fb_top.specs.Written.{HoldsWhole, StopsText, joined};
+ghost use Rattle.fb_top.specs.Called.{Asked, Ends, MakesNote, NotesCalls};
 
 use crate::Outcome;
 use crate::lines::Lines;
@@ -28,7 +29,8 @@ pub fn write_made<D: Desk>(
     ensures only { ChangesOutput which (D.seen desk.old) (D.seen desk.new) }
     ensures whole { (text : List ℕ) → IfOk made (λ bytes. bytes.items ≡ text)
         → OnOk result (HoldsWhole ((D.seen desk.new).outputs which) name.now text) }
-    ensures calm { OnOk result (((D.seen desk.new).outputs which).faults ≡ ((D.seen desk.old).outputs which).faults) }
+    ensures calls { (asked : Asked) → asked.outputs which ≡ Some name.now
+        → Ends asked result (D.seen desk.old).calls (D.seen desk.new).calls }
     ensures stops { (text : List ℕ) → IfOk made (λ bytes. bytes.items ≡ text)
         → IfErr result (StopsText which name.now text (D.seen desk.old) (D.seen desk.new)) }
     ensures memory { OnOk made (result ≢ Err Outcome.NoMemory) }
@@ -62,7 +64,8 @@ pub fn write_lines<D: Desk, L: Lines>(
     requires told { L.can_be_told lines.now }
     ensures only { ChangesOutput which (D.seen desk.old) (D.seen desk.new) }
     ensures whole { OnOk result (HoldsWhole ((D.seen desk.new).outputs which) name.now (joined (L.lines lines.now))) }
-    ensures calm { OnOk result (((D.seen desk.new).outputs which).faults ≡ ((D.seen desk.old).outputs which).faults) }
+    ensures calls { (asked : Asked) → asked.outputs which ≡ Some name.now
+        → Ends asked result (D.seen desk.old).calls (D.seen desk.new).calls }
     ensures read { OnOk result (L.can_be_read lines.now → IsReadBack (L.grammar lines.now) (L.lines lines.now)) }
     ensures stops { IfErr result (StopsText which name.now (joined (L.lines lines.now)) (D.seen desk.old) (D.seen desk.new)) }
 {
@@ -89,6 +92,7 @@ pub fn write_lines<D: Desk, L: Lines>(
 pub fn write_note<D: Desk>(alloc: Global, desk: &mut D, outcome: &Outcome)
     requires { ((D.seen desk.old).outputs Output.Note).begun ≡ false }
     ensures only { ChangesOutput Output.Note (D.seen desk.old) (D.seen desk.new) }
+    ensures calls { NotesCalls outcome.now (D.seen desk.old).calls (D.seen desk.new).calls }
     ensures note { LeavesNote outcome.now ((D.seen desk.old).outputs Output.Note) ((D.seen desk.new).outputs Output.Note) }
 {
     match outcome {
@@ -105,6 +109,7 @@ pub fn write_note<D: Desk>(alloc: Global, desk: &mut D, outcome: &Outcome)
 fn begin_note<D: Desk>(alloc: Global, desk: &mut D, outcome: &Outcome)
     requires { ((D.seen desk.old).outputs Output.Note).begun ≡ false }
     ensures only { ChangesOutput Output.Note (D.seen desk.old) (D.seen desk.new) }
+    ensures calls { MakesNote (D.seen desk.old).calls (D.seen desk.new).calls }
     ensures note { TellsNote (note_of outcome.now) ((D.seen desk.old).outputs Output.Note) ((D.seen desk.new).outputs Output.Note) }
 {
     let Ok(()) = desk.begin_output(Output::Note, "-") else {

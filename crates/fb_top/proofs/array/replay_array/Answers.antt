@@ -2,6 +2,7 @@ use Rattle.std.proofs.Common.{◌≤◌, ◌∙◌, ℕ, ◌<◌, refl, sym, sub
 use Rattle.std.specs.Prelude.{IfSome}
 use Rattle.fb_words.specs.Verdict.{array_terms}
 use Rattle.fb_top.proofs.Arrayed.{arrayed, at_texts, ran_out, runs_taken}
+use Rattle.fb_top.proofs.Called.{no_call}
 use Rattle.fb_top.proofs.array.replay_array.Goals as goal
 
 pub returns-in-Err-clause-cause : goal.returns-in-Err-clause-cause
@@ -38,3 +39,9 @@ returns-in-Err-write_array-clause-cause g c = λ first takes.
     at_texts (array_terms c.args.words.now) first _ new new c.in-Ok.runs are_runs
     (λ output no_note. takes.outputs output) (λ output no_note. refl)
     c.in-Err-write_array.outcome c.in-Err-write_array.ensures.stops
+
+pub returns-in-Err-clause-calls : goal.returns-in-Err-clause-calls
+returns-in-Err-clause-calls g c = no_call
+
+pub returns-in-Err-copy_survivor-clause-calls : goal.returns-in-Err-copy_survivor-clause-calls
+returns-in-Err-copy_survivor-clause-calls g c = no_call

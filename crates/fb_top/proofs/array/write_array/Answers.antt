@@ -1,4 +1,4 @@
-use Rattle.std.proofs.Common.{◌∙◌, List, ap, sym, subst}
+use Rattle.std.proofs.Common.{◌∙◌, List, ap, refl, sym, subst}
 use Rattle.std.specs.Option.{option_map}
 use Rattle.std.specs.Prelude.{codes, option_and_then, slice_get}
 use Rattle.std.proofs.lemmas.Result.{IfErr-weaker}
@@ -10,6 +10,8 @@ use Rattle.fb_top.specs.Devices.{array_of}
 use Rattle.fb_top.specs.Written.{StopsTexts, Text, joined}
 use Rattle.fb_top.proofs.Arrayed.{is_from, rebuild_apart, rebuild_told}
 use Rattle.fb_top.proofs.Texts.{stopped_behind, stopped_first}
+use Rattle.fb_top.proofs.Called.{then_result}
+use Rattle.fb_top.specs.Called.{array_asks}
 use Rattle.fb_top.proofs.array.write_array.Goals as goal
 
 pub returns-in-Err-clause-stops : goal.returns-in-Err-clause-stops
@@ -50,3 +52,17 @@ returns-in-Some-Some-clause-stops g c =
     (rebuild_texts terms array terms.rebuild (survivor terms.rebuild runs))
     old mid new c.in-Ok.ensures.only c.in-Ok.ensures.whole (rebuild_apart terms array runs) (λ e. cc) outcome
     (subst (λ (texts : List Text). StopsTexts texts mid new outcome) told stops)) c.write_rebuild.ensures.stops
+
+pub returns-in-Err-clause-calls : goal.returns-in-Err-clause-calls
+returns-in-Err-clause-calls g c = c.in-Err.ensures.calls (array_asks (array_terms c.args.words.now)) refl
+
+pub returns-in-Some-Some-clause-calls : goal.returns-in-Some-Some-clause-calls
+returns-in-Some-Some-clause-calls g c =
+    let asks = array_asks (array_terms c.args.words.now) in
+    let given = ap (option_map rebuild_terms) c.in-Some-Some.is-0 in
+    then_result asks c.write_rebuild.result _ (c.in-Ok.ensures.calls asks refl)
+    (c.write_rebuild.ensures.calls asks (ap (option_map (λ (rebuild : RebuildTerms). rebuild.back)) given)
+    (ap (option_map (λ (rebuild : RebuildTerms). rebuild.copy)) given))
+
+pub returns-in_default-clause-calls : goal.returns-in_default-clause-calls
+returns-in_default-clause-calls g c = c.in-Ok.ensures.calls (array_asks (array_terms c.args.words.now)) refl

@@ -1,4 +1,4 @@
-use Rattle.std.proofs.Common.{List, ℕ, [], ◌∷◌, subst}
+use Rattle.std.proofs.Common.{List, ℕ, [], ◌∷◌, ◌∙◌, Some, ap, sym, subst}
 use Rattle.std.specs.String.{string_bytes}
 use Rattle.std.proofs.lemmas.Result.{IfErr-weaker}
 use Rattle.fb_desk.specs.declared.desk.Output.TheVariants.{Back, Copied}
@@ -6,6 +6,7 @@ use Rattle.fb_mirror.specs.Copy.{copy_lines}
 use Rattle.fb_report.specs.Back.{back_lines}
 use Rattle.fb_top.specs.Written.{HoldsWhole, StopsText, Text, joined}
 use Rattle.fb_top.proofs.Texts.{stopped_behind, stopped_first}
+use Rattle.fb_top.proofs.Called.{then_result}
 use Rattle.fb_top.proofs.array.write_rebuild.Goals as goal
 
 pub returns-in-Err-clause-stops : goal.returns-in-Err-clause-stops
@@ -36,3 +37,11 @@ returns-clause-stops g c =
     (stopped_first second [] mid new c.write_lines-2.ensures.only outcome
     (subst (λ (name : List ℕ). StopsText Copied name copy_text mid new outcome) c.as_str-2.ensures.value stops)))
     c.write_lines-2.ensures.stops
+
+pub returns-in-Err-clause-calls : goal.returns-in-Err-clause-calls
+returns-in-Err-clause-calls g c = λ asked back copy. c.in-Err.ensures.calls asked (back ∙ ap Some (sym c.as_str.ensures.value))
+
+pub returns-clause-calls : goal.returns-clause-calls
+returns-clause-calls g c = λ asked back copy.
+    then_result asked c.write_lines-2.result _ (c.in-Ok.ensures.calls asked (back ∙ ap Some (sym c.as_str.ensures.value)))
+    (c.write_lines-2.ensures.calls asked (copy ∙ ap Some (sym c.as_str-2.ensures.value)))

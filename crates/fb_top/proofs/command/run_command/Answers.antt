@@ -5,7 +5,7 @@ use Rattle.fb_top.proofs.Completeness.{complete}
 use Rattle.fb_desk.specs.declared.desk.Output.TheVariants.{Note}
 use Rattle.fb_top.proofs.Notes.{answer_still}
 use Rattle.fb_top.proofs.Unnamed.{unnamed_after}
-use Rattle.fb_top.proofs.Opened.{opened_after, calm_after}
+use Rattle.fb_top.proofs.Opened.{opened_after}
 use Rattle.fb_top.proofs.command.run_command.Goals as goal
 
 pub returns-clause-answers : goal.returns-clause-answers
@@ -31,8 +31,9 @@ returns-clause-opened g c =
     (g.D.Desk.seen c.answer_words-outcome.new.desk) (g.D.Desk.seen c.write_note.new.desk)
     c.answer_words-outcome.ensures.opened c.write_note.ensures.only
 
-pub returns-clause-calm : goal.returns-clause-calm
-returns-clause-calm g c =
-    calm_after c.answer_words-outcome.result (g.D.Desk.seen c.args.desk.now) (g.D.Desk.seen c.answer_words-outcome.new.desk)
-    (g.D.Desk.seen c.write_note.new.desk)
-    c.answer_words-outcome.ensures.calm c.write_note.ensures.only c.write_note.ensures.note
+pub returns-clause-calls : goal.returns-clause-calls
+returns-clause-calls g c = record {
+  between = (g.D.Desk.seen c.answer_words-outcome.new.desk).calls;
+  command = c.answer_words-outcome.ensures.calls;
+  note = c.write_note.ensures.calls;
+}

@@ -1,5 +1,5 @@
-use Rattle.std.proofs.Common.{List, ℕ, refl, subst}
-use Rattle.fb_desk.specs.declared.desk.Input.TheVariants.{Params, Calls}
+use Rattle.std.proofs.Common.{List, Some, ℕ, ap, refl, sym, subst}
+use Rattle.fb_desk.specs.declared.desk.Input.TheVariants.{Params}
 use Rattle.fb_geometry.specs.Sound.{IsSound}
 use Rattle.fb_words.specs.Verdict.{array_terms}
 use Rattle.fb_top.specs.Causes.{StopsDisk}
@@ -10,9 +10,10 @@ use Rattle.fb_top.specs.Names.{array_file_names, array_names}
 use Rattle.fb_top.specs.Unnamed.{KeepsUnnamed}
 use Rattle.fb_top.proofs.DeviceInputs.{array_at_params, each_fits}
 use Rattle.fb_top.proofs.Later.{reads_before}
-use Rattle.fb_top.proofs.Opened.{calm_inputs, opened_at_params, opened_at_trace}
-use Rattle.fb_top.proofs.Pieces.{input_same}
+use Rattle.fb_top.proofs.Opened.{opened_at_params, opened_at_trace}
 use Rattle.fb_top.proofs.Unnamed.{unnamed_at_params, unnamed_at_trace}
+use Rattle.fb_top.proofs.Called.{then_calls, then_ends}
+use Rattle.fb_top.specs.Called.{array_asks}
 use Rattle.fb_top.proofs.devices.read_array.Given as given
 use Rattle.fb_top.proofs.devices.read_array.Goals as goal
 use Rattle.fb_top.proofs.devices.read_array.Goals.{After-read_workloads}
@@ -81,13 +82,6 @@ returns-in-Ok-read_workloads-clause-unnamed g c =
 pub returns-in-Ok-read_workloads-clause-opened : goal.returns-in-Ok-read_workloads-clause-opened
 returns-in-Ok-read_workloads-clause-opened g c = opened_then g (goal.at.returns-in-Ok-read_workloads-clause-opened g c).After-read_workloads
 
-pub returns-in-Ok-read_workloads-clause-calm : goal.returns-in-Ok-read_workloads-clause-calm
-returns-in-Ok-read_workloads-clause-calm g c =
-    let new = g.D.Desk.seen c.read_workloads.new.desk in
-    calm_inputs (g.D.Desk.seen c.args.desk.now)
-    (g.D.Desk.seen c.read_disk.new.desk) new new c.in-Ok.ensures.only c.in-Ok-read_workloads.ensures.only (input_same Calls new)
-    c.in-Ok.ensures.calm c.in-Ok-read_workloads.ensures.calm refl
-
 pub returns-in-Err-read_workloads-clause-cause : goal.returns-in-Err-read_workloads-clause-cause
 returns-in-Err-read_workloads-clause-cause g c =
     let old = g.D.Desk.seen c.args.desk.now in
@@ -103,3 +97,17 @@ returns-in-Err-read_workloads-clause-unnamed g c =
 pub returns-in-Err-read_workloads-clause-opened : goal.returns-in-Err-read_workloads-clause-opened
 returns-in-Err-read_workloads-clause-opened g c =
     opened_then g (goal.at.returns-in-Err-read_workloads-clause-opened g c).After-read_workloads
+
+pub returns-in-Err-clause-calls : goal.returns-in-Err-clause-calls
+returns-in-Err-clause-calls g c = c.in-Err.ensures.calls (array_asks (array_terms c.args.words.now)) (ap Some (sym c.as_str.ensures.value))
+
+pub returns-in-Ok-read_workloads-clause-calls : goal.returns-in-Ok-read_workloads-clause-calls
+returns-in-Ok-read_workloads-clause-calls g c =
+    let asks = array_asks (array_terms c.args.words.now) in
+    then_calls (c.in-Ok.ensures.calls asks (ap Some (sym c.as_str.ensures.value))) (c.in-Ok-read_workloads.ensures.calls asks refl)
+
+pub returns-in-Err-read_workloads-clause-calls : goal.returns-in-Err-read_workloads-clause-calls
+returns-in-Err-read_workloads-clause-calls g c =
+    let asks = array_asks (array_terms c.args.words.now) in
+    then_ends asks c.in-Err-read_workloads.outcome _ (c.in-Ok.ensures.calls asks (ap Some (sym c.as_str.ensures.value)))
+    (c.in-Err-read_workloads.ensures.calls asks refl)

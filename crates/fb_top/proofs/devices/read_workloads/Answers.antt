@@ -1,4 +1,4 @@
-use Rattle.std.proofs.Common.{List, ℕ, ◌≡◌, ◌<◌, arith, length, map, sym, subst, Some, true}
+use Rattle.std.proofs.Common.{List, ℕ, ◌≡◌, ◌<◌, ◌∙◌, ap, arith, length, map, sym, subst, Some, true}
 use Rattle.std.specs.Prelude.{IfSome, slice_get}
 use Rattle.std.proofs.lemmas.List.{length-map}
 use Rattle.fb_trace.specs.declared.trace.Trace.{Trace}
@@ -9,6 +9,7 @@ use Rattle.fb_top.specs.Devices.{ReadsTraces, StopsTraces, is_rebuilt_from}
 use Rattle.fb_top.proofs.DeviceInputs.{array_at_rebuild, array_at_trace}
 use Rattle.fb_top.proofs.Later.{reads_before}
 use Rattle.fb_top.proofs.Values.{each_counted}
+use Rattle.fb_top.proofs.Called.{rebuild_ends}
 use Rattle.fb_top.proofs.devices.read_workloads.Goals as goal
 
 pub returns-in-Err-clause-cause : goal.returns-in-Err-clause-cause
@@ -57,3 +58,14 @@ returns-in-Err-read_rebuild-clause-cause g c = λ first latent reads only.
     (reads_before (only.held terms.trace) (subst (λ (name : List ℕ). ReadsTraces mid name terms.devices disk traces)
     c.as_str.ensures.value c.in-Ok.ensures.traces))
     only c.in-Ok.ensures.only c.in-Err-read_rebuild.ensures.stops
+
+pub returns-in-Err-clause-calls : goal.returns-in-Err-clause-calls
+returns-in-Err-clause-calls g c = λ asked given. c.in-Err.ensures.calls asked (given ∙ ap Some (sym c.as_str.ensures.value))
+
+pub returns-in-Ok-read_rebuild-clause-calls : goal.returns-in-Ok-read_rebuild-clause-calls
+returns-in-Ok-read_rebuild-clause-calls g c = λ asked given. c.in-Ok.ensures.calls asked (given ∙ ap Some (sym c.as_str.ensures.value))
+
+pub returns-in-Err-read_rebuild-clause-calls : goal.returns-in-Err-read_rebuild-clause-calls
+returns-in-Err-read_rebuild-clause-calls g c = λ asked given.
+    rebuild_ends asked (array_terms c.args.words.now).rebuild c.args.disk.now.map c.in-Err-read_rebuild.outcome
+    (c.in-Ok.ensures.calls asked (given ∙ ap Some (sym c.as_str.ensures.value))) c.in-Err-read_rebuild.ensures.stops

@@ -1,4 +1,4 @@
-use Rattle.std.proofs.Common.{List, ℕ, subst, refl, arith, length}
+use Rattle.std.proofs.Common.{List, Some, ℕ, ap, subst, sym, refl, arith, length}
 use Rattle.fb_geometry.specs.Places.{places}
 use Rattle.fb_geometry.specs.Sound.{IsSound}
 use Rattle.fb_maker.specs.Trace.{made_trace}
@@ -9,6 +9,8 @@ use Rattle.fb_top.specs.Make.{trace_text}
 use Rattle.fb_top.specs.Written.{HoldsWhole, StopsText}
 use Rattle.fb_maker.proofs.ScriptRead.{some_sectors}
 use Rattle.fb_top.proofs.Making.{stopped_trace, stopped_calls, wrote_both}
+use Rattle.fb_top.proofs.Called.{then_calls, then_ends}
+use Rattle.fb_top.specs.Called.{make_asks}
 use Rattle.fb_top.proofs.make.make_for.Given as given
 use Rattle.fb_top.proofs.make.make_for.Goals as goal
 use Rattle.fb_top.proofs.make.make_for.Goals.{In-Ok}
@@ -66,3 +68,12 @@ returns-in-Err-write_calls-clause-cause g c = λ first latent reads only.
     (trace_whole g (goal.at.returns-in-Err-write_calls-clause-cause g c).In-Ok)
     (subst (λ (name : List ℕ). StopsText MadeCalls name (script_text disk.map) late new c.in-Err-write_calls.outcome) c.as_str.ensures.value
     c.in-Err-write_calls.ensures.stops)
+
+pub returns-in-Ok-write_calls-clause-calls : goal.returns-in-Ok-write_calls-clause-calls
+returns-in-Ok-write_calls-clause-calls g c =
+    then_calls c.in-Ok.ensures.calls (c.in-Ok-write_calls.ensures.calls (make_asks (make_terms c.args.words.now)) (ap Some (sym c.as_str.ensures.value)))
+
+pub returns-in-Err-write_calls-clause-calls : goal.returns-in-Err-write_calls-clause-calls
+returns-in-Err-write_calls-clause-calls g c =
+    let asks = make_asks (make_terms c.args.words.now) in
+    then_ends asks c.in-Err-write_calls.outcome _ c.in-Ok.ensures.calls (c.in-Err-write_calls.ensures.calls asks (ap Some (sym c.as_str.ensures.value)))

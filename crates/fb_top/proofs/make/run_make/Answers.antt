@@ -1,10 +1,12 @@
-use Rattle.std.proofs.Common.{List, ℕ, subst}
+use Rattle.std.proofs.Common.{List, Some, ap, sym, ℕ, subst}
 use Rattle.fb_top.specs.Causes.{StopsDisk}
 use Rattle.fb_top.specs.Read.{ReadsDisk}
 use Rattle.fb_top.proofs.Making.{disk_stopped}
 use Rattle.fb_top.proofs.Later.{later_at_params}
 use Rattle.fb_top.proofs.Unnamed.{later_after}
 use Rattle.fb_words.specs.Verdict.{make_terms}
+use Rattle.fb_top.proofs.Called.{then_ends}
+use Rattle.fb_top.specs.Called.{make_asks}
 use Rattle.fb_top.proofs.make.run_make.Goals as goal
 
 pub returns-in-Ok-clause-cause : goal.returns-in-Ok-clause-cause
@@ -27,3 +29,11 @@ returns-in-Err-clause-cause g c =
     let new = g.D.Desk.seen c.read_disk.new.desk in
     disk_stopped (make_terms c.args.words.now) old new c.in-Err.outcome c.in-Err.ensures.only
     (subst (λ (name : List ℕ). StopsDisk name old new c.in-Err.outcome) c.as_str.ensures.value c.in-Err.ensures.stops)
+
+pub returns-in-Ok-clause-calls : goal.returns-in-Ok-clause-calls
+returns-in-Ok-clause-calls g c =
+    let asks = make_asks (make_terms c.args.words.now) in
+    then_ends asks c.make_for.result _ (c.in-Ok.ensures.calls asks (ap Some (sym c.as_str.ensures.value))) c.make_for.ensures.calls
+
+pub returns-in-Err-clause-calls : goal.returns-in-Err-clause-calls
+returns-in-Err-clause-calls g c = c.in-Err.ensures.calls (make_asks (make_terms c.args.words.now)) (ap Some (sym c.as_str.ensures.value))

@@ -1,4 +1,4 @@
-use Rattle.std.proofs.Common.{◌≡◌, ◌∙◌, ◌+◌, ap, arith, sym, refl}
+use Rattle.std.proofs.Common.{◌≡◌, ◌∙◌, ◌+◌, ap, arith, sym, refl, true, false}
 use Rattle.std.specs.Prelude.{Some, slice_get}
 use Rattle.std.specs.String.{string_bytes}
 use Rattle.fb_desk.specs.declared.desk.Output.TheVariants.{MadeTrace}
@@ -7,6 +7,10 @@ use Rattle.fb_maker.specs.Trace.{made_lines}
 use Rattle.fb_top.proofs.Pieces.{output_on}
 use Rattle.fb_top.proofs.Fronts.{front_of, front_more, holds_more, holds_all, rose_since, same_name}
 use Rattle.fb_top.proofs.Making.{line_at, lines_counted}
+use Rattle.fb_desk.specs.View.{begins}
+use Rattle.fb_words.specs.Verdict.{make_terms}
+use Rattle.fb_top.proofs.Called.{one_call, one_failed, then_calls, then_stops}
+use Rattle.fb_top.specs.Called.{IsOfOutput, make_asks}
 use Rattle.fb_top.proofs.make.write_trace.Given as given
 use Rattle.fb_top.proofs.make.write_trace.Goals as goal
 use Rattle.fb_top.proofs.make.write_trace.Goals.{After-write_whole}
@@ -41,7 +45,7 @@ returns-in-Err-write_whole-clause-stops g c =
     let line = next_line g (goal.at.returns-in-Err-write_whole-clause-stops g c).After-write_whole in (
       refl,
       rose_since (old.outputs MadeTrace).faults (now.outputs MadeTrace).faults
-          (new.outputs MadeTrace).faults c.loop-index.invariant.calm c.in-Err-write_whole.ensures.cause.failed,
+          (new.outputs MadeTrace).faults c.loop-index.invariant.later c.in-Err-write_whole.ensures.cause.failed,
       λ begun. record {
         named = same_name (string_bytes words.trace) (now.outputs MadeTrace).name
             (new.outputs MadeTrace).name c.in-Err-write_whole.ensures.name c.loop-index.invariant.name;
@@ -62,7 +66,8 @@ loop-index-preserved g c =
     let line = next_line g (goal.at.loop-index-preserved g c).After-write_whole in
     record {
       only = output_on MadeTrace old now new c.loop-index.invariant.only told.only;
-      calm = told.cause.calm ∙ c.loop-index.invariant.calm;
+      later = omega (arith, told.cause.later, c.loop-index.invariant.later);
+      calls = then_calls c.loop-index.invariant.calls (told.calls (make_asks (make_terms words)) refl);
       begun = told.begun;
       name = same_name (string_bytes words.trace) (now.outputs MadeTrace).name
           (new.outputs MadeTrace).name told.name c.loop-index.invariant.name;
@@ -83,3 +88,18 @@ returns-clause-whole g c =
           holds_all ((g.D.Desk.seen c.loop-index.desk).outputs MadeTrace).written lines c.loop-index.index c.loop-index.invariant.lines
           (omega (arith, lines_counted words.number words.device c.args.sectors words.requests, c.loop-index-test.false));
     }
+
+pub returns-in-Err-clause-calls : goal.returns-in-Err-clause-calls
+returns-in-Err-clause-calls g c =
+    one_failed (make_asks (make_terms c.args.words.now)) (IsOfOutput MadeTrace) (begins MadeTrace c.as_str.result.now false)
+    (g.D.Desk.seen c.args.desk.now).calls (g.D.Desk.seen c.begin_output.new.self).calls c.in-Err.ensures.call
+    (record { asked_for = ap Some (sym c.as_str.ensures.value); of = refl; failed = refl })
+
+pub loop-index-init-clause-calls : goal.loop-index-init-clause-calls
+loop-index-init-clause-calls g c =
+    one_call (make_asks (make_terms c.args.words.now)) (begins MadeTrace c.as_str.result.now true) (g.D.Desk.seen c.args.desk.now).calls
+    (g.D.Desk.seen c.begin_output.new.self).calls c.in-Ok.ensures.call (record { asked_for = ap Some (sym c.as_str.ensures.value); succeeded = refl })
+
+pub returns-in-Err-write_whole-clause-calls : goal.returns-in-Err-write_whole-clause-calls
+returns-in-Err-write_whole-clause-calls g c =
+    then_stops c.loop-index.invariant.calls (c.in-Err-write_whole.ensures.calls (make_asks (make_terms c.args.words.now)) refl)

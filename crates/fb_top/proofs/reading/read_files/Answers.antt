@@ -5,6 +5,7 @@ use Rattle.fb_top.specs.Taken.{files_on}
 use Rattle.fb_top.proofs.Later.{at_params, is_accepted}
 use Rattle.fb_top.proofs.Unnamed.{unnamed_at_params}
 use Rattle.fb_top.proofs.Opened.{opened_at_params}
+use Rattle.fb_top.proofs.Called.{then_calls, then_ends}
 use Rattle.fb_top.proofs.reading.read_files.Goals as goal
 
 pub returns-in-Err-clause-cause : goal.returns-in-Err-clause-cause
@@ -43,10 +44,6 @@ pub returns-in-Ok-read_workload-clause-opened : goal.returns-in-Ok-read_workload
 returns-in-Ok-read_workload-clause-opened g c =
     c.in-Ok-read_workload.ensures.opened (g.D.Desk.seen c.args.desk.now) c.requires c.in-Ok.ensures.only c.in-Ok.ensures.opened
 
-pub returns-in-Ok-read_workload-clause-calm : goal.returns-in-Ok-read_workload-clause-calm
-returns-in-Ok-read_workload-clause-calm g c =
-    c.in-Ok-read_workload.ensures.calm (g.D.Desk.seen c.args.desk.now) c.in-Ok.ensures.only c.in-Ok.ensures.calm
-
 pub returns-in-Err-read_workload-clause-cause : goal.returns-in-Err-read_workload-clause-cause
 returns-in-Err-read_workload-clause-cause g c = c.in-Err-read_workload.ensures.cause
     (g.D.Desk.seen c.args.desk.now) c.in-Ok.params.latent.items c.in-Ok.ensures.disk c.in-Ok.ensures.only
@@ -58,3 +55,15 @@ returns-in-Err-read_workload-clause-unnamed g c =
 pub returns-in-Err-read_workload-clause-opened : goal.returns-in-Err-read_workload-clause-opened
 returns-in-Err-read_workload-clause-opened g c =
     c.in-Err-read_workload.ensures.opened (g.D.Desk.seen c.args.desk.now) c.requires c.in-Ok.ensures.only c.in-Ok.ensures.opened
+
+pub returns-in-Err-clause-calls : goal.returns-in-Err-clause-calls
+returns-in-Err-clause-calls g c = λ asked asks. c.in-Err.ensures.calls asked asks.params
+
+pub returns-in-Ok-read_workload-clause-calls : goal.returns-in-Ok-read_workload-clause-calls
+returns-in-Ok-read_workload-clause-calls g c = λ asked asks.
+    then_calls (c.in-Ok.ensures.calls asked asks.params) (c.in-Ok-read_workload.ensures.calls asked asks)
+
+pub returns-in-Err-read_workload-clause-calls : goal.returns-in-Err-read_workload-clause-calls
+returns-in-Err-read_workload-clause-calls g c = λ asked asks.
+    then_ends asked c.in-Err-read_workload.outcome _ (c.in-Ok.ensures.calls asked asks.params)
+    (c.in-Err-read_workload.ensures.calls asked asks)

@@ -12,7 +12,8 @@ use Rattle.fb_top.specs.Read.{ReadsScript}
 use Rattle.fb_top.specs.Causes.{AcceptsTrace, StopsScript}
 use Rattle.fb_top.proofs.Later.{at_trace, at_script, reads_before, script_before}
 use Rattle.fb_top.proofs.Unnamed.{unnamed_at_trace, unnamed_at_calls}
-use Rattle.fb_top.proofs.Opened.{calm_inputs, opened_at_trace, opened_at_calls}
+use Rattle.fb_top.proofs.Opened.{opened_at_trace, opened_at_calls}
+use Rattle.fb_top.proofs.Called.{then_calls, then_ends}
 use Rattle.fb_top.proofs.reading.read_workload.Given as given
 use Rattle.fb_top.proofs.reading.read_workload.Goals as goal
 use Rattle.fb_top.proofs.reading.read_workload.Goals.{After-read_script}
@@ -78,11 +79,6 @@ returns-in-Ok-read_script-clause-unnamed g c = unnamed_then g (goal.at.returns-i
 pub returns-in-Ok-read_script-clause-opened : goal.returns-in-Ok-read_script-clause-opened
 returns-in-Ok-read_script-clause-opened g c = opened_then g (goal.at.returns-in-Ok-read_script-clause-opened g c).After-read_script
 
-pub returns-in-Ok-read_script-clause-calm : goal.returns-in-Ok-read_script-clause-calm
-returns-in-Ok-read_script-clause-calm g c = λ first only calm.
-    calm_inputs first (g.D.Desk.seen c.args.desk.now) (g.D.Desk.seen c.read_requests.new.desk) (g.D.Desk.seen c.read_script.new.desk)
-    only c.in-Ok.ensures.only c.in-Ok-read_script.ensures.only calm c.in-Ok.ensures.calm c.in-Ok-read_script.ensures.calm
-
 pub returns-in-Err-read_script-clause-cause : goal.returns-in-Err-read_script-clause-cause
 returns-in-Err-read_script-clause-cause g c = λ first latent reads only.
     let mid = g.D.Desk.seen c.args.desk.now in
@@ -105,3 +101,15 @@ returns-in-Err-read_script-clause-unnamed g c = unnamed_then g (goal.at.returns-
 
 pub returns-in-Err-read_script-clause-opened : goal.returns-in-Err-read_script-clause-opened
 returns-in-Err-read_script-clause-opened g c = opened_then g (goal.at.returns-in-Err-read_script-clause-opened g c).After-read_script
+
+pub returns-in-Err-clause-calls : goal.returns-in-Err-clause-calls
+returns-in-Err-clause-calls g c = λ asked asks. c.in-Err.ensures.calls asked asks.trace
+
+pub returns-in-Ok-read_script-clause-calls : goal.returns-in-Ok-read_script-clause-calls
+returns-in-Ok-read_script-clause-calls g c = λ asked asks.
+    then_calls (c.in-Ok.ensures.calls asked asks.trace) (c.in-Ok-read_script.ensures.calls asked asks.calls)
+
+pub returns-in-Err-read_script-clause-calls : goal.returns-in-Err-read_script-clause-calls
+returns-in-Err-read_script-clause-calls g c = λ asked asks.
+    then_ends asked c.in-Err-read_script.outcome _ (c.in-Ok.ensures.calls asked asks.trace)
+    (c.in-Err-read_script.ensures.calls asked asks.calls)

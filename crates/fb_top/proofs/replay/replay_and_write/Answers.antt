@@ -1,4 +1,4 @@
-use Rattle.std.proofs.Common.{◌≡◌, Option, length, inl, refl, sym, subst}
+use Rattle.std.proofs.Common.{◌≡◌, Option, length, inl, sym, subst}
 use Rattle.fb_bgwrite.specs.declared.items.SpillRun.{SpillRun}
 use Rattle.fb_script.specs.Allowed.{tasks}
 use Rattle.fb_script.specs.declared.call.Calls.{Calls}
@@ -7,13 +7,13 @@ use Rattle.fb_model.specs.FullRun.{IsFull}
 use Rattle.fb_model.specs.Inputs.{Inputs}
 use Rattle.fb_words.specs.Verdict.{replay_terms}
 use Rattle.fb_top.specs.declared.outcome.Outcome.{Outcome}
-use Rattle.fb_top.specs.Calm.{MeetsNoFault}
 use Rattle.fb_top.specs.Causes.{HasCause}
 use Rattle.fb_top.specs.Read.{files_of, inputs_of_files, key_of}
 use Rattle.fb_top.specs.Done.{CanBeTold}
 use Rattle.fb_top.specs.Spilled.{HoldsReplay, StopsReplay}
-use Rattle.fb_top.proofs.Opened.{calm_both}
-use Rattle.fb_top.proofs.Spills.{all_written, at_replay, calm_done, replay_ran_out}
+use Rattle.fb_top.proofs.Spills.{all_written, at_replay, replay_ran_out}
+use Rattle.fb_top.proofs.Called.{done_ends, no_call}
+use Rattle.fb_top.specs.Called.{EndsAs, replay_asks}
 use Rattle.fb_top.proofs.replay.replay_and_write.Given as given
 use Rattle.fb_top.proofs.replay.replay_and_write.Goals as goal
 use Rattle.fb_top.proofs.replay.replay_and_write.Goals.{In-Ok}
@@ -75,10 +75,14 @@ returns-in-Ok-write_replay-clause-cause g c = λ first takes.
     (subst (λ (s : Option SpillRun). HoldsReplay terms files run s mid new) c.as_ref.ensures.value c.in-Ok-write_replay.ensures.whole)
     c.in-Ok-write_replay.ensures.read)
 
-pub returns-in-Ok-write_replay-clause-calm : goal.returns-in-Ok-write_replay-clause-calm
-returns-in-Ok-write_replay-clause-calm g c =
-    let old = g.D.Desk.seen c.args.desk.now in
-    let new = g.D.Desk.seen c.write_replay.new.desk in
-    subst (λ (outcome : Outcome). MeetsNoFault outcome old new) (sym c.outcome_of.ensures)
-    (calm_done c.in-Ok.run' c.in-Ok-spill_given.spill old new
-    (calm_both old old new (λ input. refl) (λ output. refl) c.in-Ok-write_replay.ensures.inputs c.in-Ok-write_replay.ensures.calm))
+pub returns-in-Err-clause-calls : goal.returns-in-Err-clause-calls
+returns-in-Err-clause-calls g c = no_call
+
+pub returns-in-Err-spill_given-clause-calls : goal.returns-in-Err-spill_given-clause-calls
+returns-in-Err-spill_given-clause-calls g c = no_call
+
+pub returns-in-Ok-write_replay-clause-calls : goal.returns-in-Ok-write_replay-clause-calls
+returns-in-Ok-write_replay-clause-calls g c =
+    let asks = replay_asks (replay_terms c.args.words.now) in
+    subst (λ (outcome : Outcome). EndsAs asks outcome (g.D.Desk.seen c.args.desk.now).calls (g.D.Desk.seen c.write_replay.new.desk).calls)
+    (sym c.outcome_of.ensures) (done_ends asks c.in-Ok.run' c.in-Ok-spill_given.spill c.in-Ok-write_replay.ensures.calls)

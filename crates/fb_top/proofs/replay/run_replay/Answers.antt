@@ -1,5 +1,7 @@
 use Rattle.fb_words.specs.Verdict.{replay_terms}
 use Rattle.fb_top.proofs.Later.{replay_stopped}
+use Rattle.fb_top.proofs.Called.{then_ends}
+use Rattle.fb_top.specs.Called.{replay_asks}
 use Rattle.fb_top.proofs.replay.run_replay.Goals as goal
 
 pub returns-in-Ok-clause-cause : goal.returns-in-Ok-clause-cause
@@ -17,3 +19,7 @@ returns-in-Err-clause-cause g c =
     replay_stopped (replay_terms c.args.words.now) (g.D.Desk.seen c.args.desk.now) (g.D.Desk.seen c.read_replay_inputs.new.desk)
     c.in-Err.outcome
     c.in-Err.ensures.cause
+
+pub returns-in-Ok-clause-calls : goal.returns-in-Ok-clause-calls
+returns-in-Ok-clause-calls g c =
+    then_ends (replay_asks (replay_terms c.args.words.now)) c.replay_and_write.result _ c.in-Ok.ensures.calls c.replay_and_write.ensures.calls

@@ -1,4 +1,4 @@
-use Rattle.std.proofs.Common.{ℕ, List, Option, ap, sym, subst, inr}
+use Rattle.std.proofs.Common.{ℕ, List, Option, Some, ◌∙◌, ap, sym, subst, inr}
 use Rattle.std.specs.Option.{option_map}
 use Rattle.std.specs.String.{string_bytes}
 use Rattle.std.proofs.lemmas.Result.{IfErr-weaker, on_ok_weaker}
@@ -9,6 +9,8 @@ use Rattle.fb_top.specs.Read.{files_of}
 use Rattle.fb_top.specs.Spilled.{HoldsReplay, spill_told}
 use Rattle.fb_top.specs.Written.{HoldsWhole, StopsText}
 use Rattle.fb_top.proofs.Spills.{stopped_spill, wrote_spill}
+use Rattle.fb_top.proofs.Called.{then_result}
+use Rattle.fb_top.specs.Called.{replay_asks}
 use Rattle.fb_top.proofs.replay.write_replay.Goals as goal
 
 pub returns-in-Some-Some-clause-whole : goal.returns-in-Some-Some-clause-whole
@@ -40,3 +42,9 @@ returns-in-Some-Some-clause-stops g c =
           (g.D.Desk.seen c.write_lines.new.desk) outcome)
           c.as_str.ensures.value stops),
     )) c.write_lines.ensures.stops
+
+pub returns-in-Some-Some-clause-calls : goal.returns-in-Some-Some-clause-calls
+returns-in-Some-Some-clause-calls g c =
+    let asks = replay_asks (replay_terms c.args.words.now) in
+    then_result asks c.write_lines.result _ c.in-Ok.ensures.calls
+    (c.write_lines.ensures.calls asks (ap (option_map string_bytes) c.in-Some-Some.is-1 ∙ ap Some (sym c.as_str.ensures.value)))

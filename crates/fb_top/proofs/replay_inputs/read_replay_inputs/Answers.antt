@@ -1,4 +1,4 @@
-use Rattle.std.proofs.Common.{◌∙◌, ℕ, List, Option, subst}
+use Rattle.std.proofs.Common.{◌∙◌, ℕ, List, Option, refl, sym, subst}
 use Rattle.std.specs.Option.{option_map}
 use Rattle.fb_puts.specs.Verdict.{accepted}
 use Rattle.fb_desk.specs.declared.desk.Input.TheVariants.{Puts}
@@ -7,13 +7,15 @@ use Rattle.fb_words.specs.Verdict.{replay_terms}
 use Rattle.fb_top.specs.Causes.{AcceptsFiles, StopsInputs, StopsGivenPuts}
 use Rattle.fb_top.specs.Opened.{IsOpenedAs, OpensAsNamed}
 use Rattle.fb_top.specs.Read.{Accepts, AcceptsPuts, files_of, key_of}
-use Rattle.fb_top.specs.Names.{FileNames, files_alone, replay_names}
+use Rattle.fb_top.specs.Names.{FileNames, file_names, files_alone, replay_names}
 use Rattle.fb_top.specs.Unnamed.{KeepsUnnamed}
-use Rattle.fb_top.proofs.MoreInputs.{files_opened, files_stopped, files_unnamed, puts_before, puts_calm, puts_opened, puts_stopped}
+use Rattle.fb_top.proofs.MoreInputs.{files_opened, files_stopped, files_unnamed, puts_before, puts_opened, puts_stopped}
 use Rattle.fb_top.proofs.MoreInputs.{puts_unnamed}
+use Rattle.fb_top.proofs.Called.{then_calls, then_ends}
+use Rattle.fb_top.specs.Called.{AsksFiles, replay_asks}
 use Rattle.fb_top.proofs.replay_inputs.read_replay_inputs.Given as given
 use Rattle.fb_top.proofs.replay_inputs.read_replay_inputs.Goals as goal
-use Rattle.fb_top.proofs.replay_inputs.read_replay_inputs.Goals.{After-read_given_puts}
+use Rattle.fb_top.proofs.replay_inputs.read_replay_inputs.Goals.{After-read_files, After-read_given_puts}
 
 -- the files were read, and then the puts, if they are given
 unnamed_then : (g : given.Over) (c : After-read_given_puts g)
@@ -89,13 +91,6 @@ pub returns-in-Ok-read_given_puts-clause-opened : goal.returns-in-Ok-read_given_
 returns-in-Ok-read_given_puts-clause-opened g c =
     opened_then g (goal.at.returns-in-Ok-read_given_puts-clause-opened g c).After-read_given_puts
 
-pub returns-in-Ok-read_given_puts-clause-calm : goal.returns-in-Ok-read_given_puts-clause-calm
-returns-in-Ok-read_given_puts-clause-calm g c =
-    puts_calm (replay_names (replay_terms c.args.words.now)) _ c.named_files.ensures
-    (g.D.Desk.seen c.args.desk.now) (g.D.Desk.seen c.read_files.new.desk) (g.D.Desk.seen c.read_given_puts.new.desk)
-    c.in-Ok.ensures.held c.in-Ok.ensures.outputs c.in-Ok.ensures.unnamed c.in-Ok-read_given_puts.ensures.only c.in-Ok.ensures.calm
-    c.in-Ok-read_given_puts.ensures.calm
-
 pub returns-in-Err-read_given_puts-clause-cause : goal.returns-in-Err-read_given_puts-clause-cause
 returns-in-Err-read_given_puts-clause-cause g c =
     let old = g.D.Desk.seen c.args.desk.now in
@@ -119,3 +114,27 @@ returns-in-Err-read_given_puts-clause-unnamed g c =
 pub returns-in-Err-read_given_puts-clause-opened : goal.returns-in-Err-read_given_puts-clause-opened
 returns-in-Err-read_given_puts-clause-opened g c =
     opened_then g (goal.at.returns-in-Err-read_given_puts-clause-opened g c).After-read_given_puts
+
+-- the names of the files are those of the words
+files_asked : (g : given.Over) (c : After-read_files g)
+    → AsksFiles (replay_asks (replay_terms c.args.words.now)) (file_names c.named_files.result)
+files_asked g c =
+    subst (λ (names : FileNames). AsksFiles (replay_asks (replay_terms c.args.words.now)) names) (sym c.named_files.ensures)
+    (record { params = refl; trace = refl; calls = refl })
+
+pub returns-in-Err-clause-calls : goal.returns-in-Err-clause-calls
+returns-in-Err-clause-calls g c =
+    c.in-Err.ensures.calls (replay_asks (replay_terms c.args.words.now)) (files_asked g (goal.at.returns-in-Err-clause-calls g c).After-read_files)
+
+pub returns-in-Ok-read_given_puts-clause-calls : goal.returns-in-Ok-read_given_puts-clause-calls
+returns-in-Ok-read_given_puts-clause-calls g c =
+    let asks = replay_asks (replay_terms c.args.words.now) in
+    let files = files_asked g (goal.at.returns-in-Ok-read_given_puts-clause-calls g c).After-read_files in
+    then_calls (c.in-Ok.ensures.calls asks files) (c.in-Ok-read_given_puts.ensures.calls asks (sym c.puts_name.ensures))
+
+pub returns-in-Err-read_given_puts-clause-calls : goal.returns-in-Err-read_given_puts-clause-calls
+returns-in-Err-read_given_puts-clause-calls g c =
+    let asks = replay_asks (replay_terms c.args.words.now) in
+    let files = files_asked g (goal.at.returns-in-Err-read_given_puts-clause-calls g c).After-read_files in
+    then_ends asks c.in-Err-read_given_puts.outcome _ (c.in-Ok.ensures.calls asks files)
+    (c.in-Err-read_given_puts.ensures.calls asks (sym c.puts_name.ensures))

@@ -1,6 +1,8 @@
-use Rattle.std.proofs.Common.{arith, ap, take, ◌∙◌}
+use Rattle.std.proofs.Common.{arith, ap, drop, refl, take, true, ◌∙◌}
 use Rattle.std.proofs.lemmas.List.{take_rest}
 use Rattle.fb_desk.specs.Calls.{behind}
+use Rattle.fb_desk.specs.View.{writes}
+use Rattle.fb_top.proofs.Called.{one_call, then_calls}
 use Rattle.fb_top.proofs.Pieces.{output_on, written_more}
 use Rattle.fb_top.proofs.streams.write_whole.Goals as goal
 
@@ -14,7 +16,9 @@ loop-done-preserved g c =
     record {
       within = omega (arith, told.fits);
       only = output_on c.args.which old now next kept.only told.only;
-      calm = told.cause.calm ∙ kept.calm;
+      later = omega (arith, kept.later, told.cause.later);
+      calls = λ asked given. then_calls (kept.calls asked given) (one_call asked _ now.calls next.calls told.call
+          (record { asked_for = given; succeeded = refl }));
       begun = told.begun;
       name = told.named ∙ kept.name;
       written = written_more (old.outputs c.args.which).written (now.outputs c.args.which).written

@@ -1,15 +1,20 @@
-use Rattle.std.proofs.Common.{◌≡◌, ◌∙◌, ap, arith, length, sym, refl}
-use Rattle.std.specs.Prelude.{Some, slice_get}
+use Rattle.std.proofs.Common.{◌≡◌, ◌∙◌, ap, arith, length, sym, refl, true, false}
+use Rattle.std.specs.Prelude.{Some, is_some, slice_get}
 use Rattle.fb_report.specs.Printed.{IsLine, is_in_place}
 use Rattle.fb_report.proofs.InPlace.{all_in_place, one_line_more}
 use Rattle.fb_top.proofs.Pieces.{output_on}
 use Rattle.fb_top.proofs.Fronts.{front_of, front_more, holds_more, holds_all, holds_none, rose_since, same_name}
+use Rattle.fb_desk.specs.View.{begins}
+use Rattle.fb_top.proofs.Called.{one_call, one_failed, then_calls, then_stops}
+use Rattle.fb_top.specs.Called.{IsOfOutput}
 use Rattle.fb_top.proofs.writing.write_lines.Goals as goal
 
 pub loop-index-init : goal.loop-index-init
 loop-index-init g c = record {
   only = c.in-Ok.ensures.only;
-  calm = c.in-Ok.ensures.cause.calm;
+  later = c.in-Ok.ensures.cause.later;
+  calls = λ asked given. one_call asked (begins c.args.which c.args.name.now true) (g.D.Desk.seen c.args.desk.now).calls
+      (g.D.Desk.seen c.begin_output.new.self).calls c.in-Ok.ensures.call (record { asked_for = given; succeeded = refl });
   begun = c.in-Ok.ensures.begun;
   name = c.in-Ok.ensures.named;
   lines = holds_none ((g.D.Desk.seen c.begin_output.new.self).outputs c.args.which).written
@@ -21,7 +26,7 @@ pub returns-in-Err-line : goal.returns-in-Err-line
 returns-in-Err-line g c = record {
   only = c.loop-index.invariant.only;
   whole = tt;
-  calm = tt;
+  calls = c.loop-index.invariant.calls;
   read = tt;
   stops = λ begun. record {
     named = c.loop-index.invariant.name;
@@ -42,12 +47,13 @@ returns-in-Err-write_whole g c =
     record {
       only = output_on which old now new c.loop-index.invariant.only c.in-Err-write_whole.ensures.only;
       whole = tt;
-      calm = tt;
+      calls = λ asked given. then_stops (c.loop-index.invariant.calls asked given)
+          (c.in-Err-write_whole.ensures.calls asked (ap is_some given));
       read = tt;
       stops = (
         refl,
         rose_since (old.outputs which).faults (now.outputs which).faults
-            (new.outputs which).faults c.loop-index.invariant.calm c.in-Err-write_whole.ensures.cause.failed,
+            (new.outputs which).faults c.loop-index.invariant.later c.in-Err-write_whole.ensures.cause.failed,
         λ begun. record {
           named = same_name c.args.name.now (now.outputs which).name
               (new.outputs which).name c.in-Err-write_whole.ensures.name c.loop-index.invariant.name;
@@ -69,7 +75,8 @@ loop-index-preserved g c =
     ∙ ap Some (sym c.as_slice.ensures.value) in
     record {
       only = output_on which old now new c.loop-index.invariant.only told.only;
-      calm = told.cause.calm ∙ c.loop-index.invariant.calm;
+      later = omega (arith, told.cause.later, c.loop-index.invariant.later);
+      calls = λ asked given. then_calls (c.loop-index.invariant.calls asked given) (told.calls asked (ap is_some given));
       begun = told.begun;
       name = same_name c.args.name.now (now.outputs which).name (new.outputs which).name told.name c.loop-index.invariant.name;
       lines = holds_more (now.outputs which).written
@@ -90,7 +97,7 @@ returns g c =
         written = holds_all ((g.D.Desk.seen c.loop-index.desk).outputs c.args.which).written lines c.loop-index.index
             c.loop-index.invariant.lines (omega (arith, c.count-index-end.ensures.value, c.loop-index-test.false));
       };
-      calm = c.loop-index.invariant.calm;
+      calls = c.loop-index.invariant.calls;
       read = λ can. all_in_place (g.L.Lines.grammar c.args.lines.now) lines c.loop-index.index (length lines) refl (omega (
         arith,
         c.count-index-end.ensures.value,
@@ -99,3 +106,9 @@ returns g c =
           (omega (arith, c.count-index-end.ensures.value, c.loop-index-test.false)) (c.loop-index.invariant.in_place can);
       stops = tt;
     }
+
+pub returns-in-Err-clause-calls : goal.returns-in-Err-clause-calls
+returns-in-Err-clause-calls g c = λ asked given.
+    one_failed asked (IsOfOutput c.args.which) (begins c.args.which c.args.name.now false)
+    (g.D.Desk.seen c.args.desk.now).calls (g.D.Desk.seen c.begin_output.new.self).calls c.in-Err.ensures.call
+    (record { asked_for = given; of = refl; failed = refl })

@@ -1,7 +1,8 @@
-use Rattle.std.proofs.Common.{◌≡◌, ◌<◌, ℕ, List, length, Some, true}
+use Rattle.std.proofs.Common.{◌≡◌, ◌<◌, ◌≤◌, ℕ, List, length, Some, true}
 use Rattle.std.specs.Prelude.{IfSome, slice_get}
 use Rattle.fb_report.specs.Printed.{IsLine, is_in_place}
 use Rattle.fb_desk.specs.Calls.{ChangesOutput}
+use Rattle.fb_top.specs.Called.{AreServed, Asked}
 use Rattle.fb_top.proofs.Fronts.{HoldsLines}
 use Rattle.fb_top.proofs.writing.write_lines.Given as goal
 
@@ -11,7 +12,8 @@ invariant-loop-index g l =
     let new = g.D.Desk.seen l.desk in
     record {
       only : ChangesOutput l.which old new;
-      calm : (new.outputs l.which).faults ≡ (old.outputs l.which).faults;
+      later : (old.outputs l.which).faults ≤ (new.outputs l.which).faults;
+      calls : (asked : Asked) → asked.outputs l.which ≡ Some l.name → AreServed asked old.calls new.calls;
       begun : (new.outputs l.which).begun ≡ true;
       name : IfSome (new.outputs l.which).name (λ told. told ≡ l.name);
       lines : HoldsLines (new.outputs l.which).written (g.L.Lines.lines l.lines) l.index;

@@ -1,7 +1,10 @@
-use Rattle.std.proofs.Common.{◌≡◌, ◌∙◌, refl, subst}
-use Rattle.std.specs.Prelude.{IfOk}
+use Rattle.std.proofs.Common.{◌≡◌, ◌∙◌, ap, refl, subst, true, false}
+use Rattle.std.specs.Prelude.{IfOk, is_some}
 use Rattle.fb_top.specs.Streams.{AppendsFront}
 use Rattle.fb_top.proofs.Fronts.{cut_text, rose_since, same_name}
+use Rattle.fb_desk.specs.View.{begins}
+use Rattle.fb_top.proofs.Called.{no_call, one_call, one_failed, then_calls, then_stops}
+use Rattle.fb_top.specs.Called.{IsOfOutput}
 use Rattle.fb_top.proofs.writing.write_made.Goals as goal
 
 pub returns-clause-stops : goal.returns-clause-stops
@@ -12,10 +15,31 @@ returns-clause-stops g c =
     λ text is.
     let made = subst (λ made. IfOk made (λ bytes. bytes.items ≡ text)) c.in-Ok.is is in (
       refl,
-      rose_since old.faults now.faults new.faults c.in-Ok-begin_output.ensures.cause.calm c.in-Err-write_whole.ensures.cause.failed,
+      rose_since old.faults now.faults new.faults c.in-Ok-begin_output.ensures.cause.later c.in-Err-write_whole.ensures.cause.failed,
       λ begun. record {
         named = same_name c.args.name.now now.name new.name c.in-Err-write_whole.ensures.name c.in-Ok-begin_output.ensures.named;
         written = cut_text now.written new.written text c.in-Ok-begin_output.ensures.empty
             (subst (AppendsFront now.written new.written) (c.as_slice.ensures.value ∙ made) c.in-Err-write_whole.ensures.front);
       },
     )
+
+pub returns-in-Err-clause-calls : goal.returns-in-Err-clause-calls
+returns-in-Err-clause-calls g c = λ asked given. no_call
+
+pub returns-in-Err-begin_output-clause-calls : goal.returns-in-Err-begin_output-clause-calls
+returns-in-Err-begin_output-clause-calls g c = λ asked given.
+    one_failed asked (IsOfOutput c.args.which) (begins c.args.which c.args.name.now false)
+    (g.D.Desk.seen c.args.desk.now).calls (g.D.Desk.seen c.begin_output.new.self).calls c.in-Err-begin_output.ensures.call
+    (record { asked_for = given; of = refl; failed = refl })
+
+pub returns-in-Ok-write_whole-clause-calls : goal.returns-in-Ok-write_whole-clause-calls
+returns-in-Ok-write_whole-clause-calls g c = λ asked given.
+    then_calls (one_call asked (begins c.args.which c.args.name.now true) (g.D.Desk.seen c.args.desk.now).calls
+    (g.D.Desk.seen c.begin_output.new.self).calls c.in-Ok-begin_output.ensures.call (record { asked_for = given; succeeded = refl }))
+    (c.in-Ok-write_whole.ensures.calls asked (ap is_some given))
+
+pub returns-clause-calls : goal.returns-clause-calls
+returns-clause-calls g c = λ asked given.
+    then_stops (one_call asked (begins c.args.which c.args.name.now true) (g.D.Desk.seen c.args.desk.now).calls
+    (g.D.Desk.seen c.begin_output.new.self).calls c.in-Ok-begin_output.ensures.call (record { asked_for = given; succeeded = refl }))
+    (c.in-Err-write_whole.ensures.calls asked (ap is_some given))
