@@ -1,5 +1,5 @@
 -- Files that were read, told of all inputs that the words name.
-use Rattle.std.proofs.Common.{◌≡◌, ◌∙◌, ◌⊎◌, inl, inr, ℕ, List, Option, Some, None, true, refl, sym, ap, subst}
+use Rattle.std.proofs.Common.{◌≡◌, ◌∙◌, ◌⊎◌, inl, inr, ℕ, List, Option, Some, None, true, refl, sym, subst}
 use Rattle.std.specs.Prelude.{IfSome, is_some}
 use Rattle.fb_puts.specs.Reading.{Accepted as PutsRead}
 use Rattle.fb_desk.specs.Calls.{ChangesInput}

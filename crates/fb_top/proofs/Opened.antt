@@ -2,20 +2,15 @@
 use Rattle.std.proofs.Common.{◌≡◌, ◌∙◌, ℕ, List, ◌++◌, Option, Some, None, true, refl, sym, ap, subst}
 use Rattle.std.specs.Prelude.{IfSome, Result, Ok, Err}
 use Rattle.fb_desk.specs.Calls.{ChangesInput, ChangesOutput, before}
-use Rattle.fb_desk.specs.View.{DeskView, InputView, OutputView, IsUnused}
+use Rattle.fb_desk.specs.View.{DeskView, InputView, IsUnused}
 use Rattle.fb_desk.specs.declared.desk.Input.{Input}
 use Rattle.fb_desk.specs.declared.desk.Input.TheVariants.{Params, Trace, Calls, Puts, ForeReport, BackReport}
 use Rattle.fb_desk.specs.declared.desk.Output.{Output}
-use Rattle.fb_desk.specs.declared.desk.Output.TheVariants.{Fore, Back, Spill, Note, MadeTrace, MadeCalls, Copied}
 use Rattle.fb_words.specs.Command.{Terms, replays, makes, checks, arrays}
 use Rattle.fb_top.specs.Names.{InputNames, FileNames, array_names, check_names, files_alone, name_of, replay_names}
 use Rattle.fb_words.specs.declared.fault.UsageFault.{UsageFault}
-use Rattle.fb_top.specs.declared.outcome.Outcome.{Outcome}
-use Rattle.fb_top.specs.declared.outcome.Outcome.TheVariants as outcomes
 use Rattle.fb_top.specs.Streams.{IsLeftOf}
 use Rattle.fb_top.specs.Opened.{IsOpenedAs, OpensAsNamed, OpensNamed}
-use Rattle.fb_top.specs.Noted.{LeavesNote}
-use Rattle.fb_top.specs.Taken.{KeepsOutputs}
 use Rattle.fb_top.specs.Unnamed.{KeepsInputs}
 use Rattle.fb_top.proofs.Unnamed.{is_named}
 

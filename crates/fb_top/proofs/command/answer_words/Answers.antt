@@ -1,8 +1,16 @@
-use Rattle.std.proofs.Common.{Global, map}
+use Rattle.std.proofs.Common.{◌∙◌, Global, Ok, ap, map, subst, sym}
 use Rattle.std.specs.String.{string_bytes}
+use Rattle.fb_words.specs.Verdict.{terms}
+use Rattle.fb_top.specs.Called.{EndsAs, asked_by}
 use Rattle.fb_top.proofs.Together.{of_command}
 use Rattle.fb_top.proofs.command.answer_words.Goals as goal
 
 pub run_replay-requires-clause-together : goal.run_replay-requires-clause-together
 run_replay-requires-clause-together g c = of_command (map (string_bytes {Z = Global}) c.args.words.now) c.in-Ok-Replay.field-0
     c.in-Ok-Replay.words c.in-Ok-Replay.ensures.answer c.in-Ok-Replay.field-0-is
+
+pub returns-in-Ok-Replay-clause-calls : goal.returns-in-Ok-Replay-clause-calls
+returns-in-Ok-Replay-clause-calls g c =
+    let given = c.in-Ok-Replay.ensures.answer ∙ ap (λ command. Ok (terms command)) c.in-Ok-Replay.field-0-is in
+    subst (λ reading. EndsAs (asked_by reading) c.run_replay.result (g.D.Desk.seen c.args.desk.now).calls
+    (g.D.Desk.seen c.run_replay.new.desk).calls) (sym given) c.run_replay.ensures.calls

@@ -1,11 +1,11 @@
-use Rattle.std.proofs.Common.{◌≡◌, ◌∙◌, ◌+◌, ap, arith, sym, refl, true, false}
-use Rattle.std.specs.Prelude.{Some, slice_get}
+use Rattle.std.proofs.Common.{◌≡◌, ◌∙◌, ◌+◌, ap, arith, subst, sym, refl, true, false}
+use Rattle.std.specs.Prelude.{IfSome, Some, slice_get}
 use Rattle.std.specs.String.{string_bytes}
 use Rattle.fb_desk.specs.declared.desk.Output.TheVariants.{MadeTrace}
 use Rattle.fb_maker.specs.Making.{Making, line_made}
 use Rattle.fb_maker.specs.Trace.{made_lines}
 use Rattle.fb_top.proofs.Pieces.{output_on}
-use Rattle.fb_top.proofs.Fronts.{front_of, front_more, holds_more, holds_all, rose_since, same_name}
+use Rattle.fb_top.proofs.Fronts.{front_of, front_more, holds_more, holds_all, holds_none, rose_since, same_name}
 use Rattle.fb_top.proofs.Making.{line_at, lines_counted}
 use Rattle.fb_desk.specs.View.{begins}
 use Rattle.fb_words.specs.Verdict.{make_terms}
@@ -95,10 +95,21 @@ returns-in-Err-clause-calls g c =
     (g.D.Desk.seen c.args.desk.now).calls (g.D.Desk.seen c.begin_output.new.self).calls c.in-Err.ensures.call
     (record { asked_for = ap Some (sym c.as_str.ensures.value); of = refl; failed = refl })
 
-pub loop-index-init-clause-calls : goal.loop-index-init-clause-calls
-loop-index-init-clause-calls g c =
-    one_call (make_asks (make_terms c.args.words.now)) (begins MadeTrace c.as_str.result.now true) (g.D.Desk.seen c.args.desk.now).calls
-    (g.D.Desk.seen c.begin_output.new.self).calls c.in-Ok.ensures.call (record { asked_for = ap Some (sym c.as_str.ensures.value); succeeded = refl })
+pub loop-index-init : goal.loop-index-init
+loop-index-init g c =
+    let words = c.args.words.now in
+    let now = g.D.Desk.seen c.begin_output.new.self in
+    record {
+      only = c.in-Ok.ensures.only;
+      later = c.in-Ok.ensures.cause.later;
+      calls = one_call (make_asks (make_terms words)) (begins MadeTrace c.as_str.result.now true) (g.D.Desk.seen c.args.desk.now).calls now.calls
+          c.in-Ok.ensures.call (record { asked_for = ap Some (sym c.as_str.ensures.value); succeeded = refl });
+      begun = c.in-Ok.ensures.begun;
+      name = subst (λ name. IfSome (now.outputs MadeTrace).name (λ told. told ≡ name)) c.as_str.ensures.value c.in-Ok.ensures.named;
+      lines = holds_none (now.outputs MadeTrace).written (made_lines words.number words.device c.args.sectors words.requests)
+          c.in-Ok.ensures.empty;
+      maker = c.new-maker.ensures;
+    }
 
 pub returns-in-Err-write_whole-clause-calls : goal.returns-in-Err-write_whole-clause-calls
 returns-in-Err-write_whole-clause-calls g c =

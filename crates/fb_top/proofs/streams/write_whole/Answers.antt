@@ -1,7 +1,6 @@
-use Rattle.std.proofs.Common.{arith, ap, drop, refl, take, true, ◌∙◌}
+use Rattle.std.proofs.Common.{arith, ap, refl, take, ◌∙◌}
 use Rattle.std.proofs.lemmas.List.{take_rest}
 use Rattle.fb_desk.specs.Calls.{behind}
-use Rattle.fb_desk.specs.View.{writes}
 use Rattle.fb_top.proofs.Called.{one_call, then_calls}
 use Rattle.fb_top.proofs.Pieces.{output_on, written_more}
 use Rattle.fb_top.proofs.streams.write_whole.Goals as goal
