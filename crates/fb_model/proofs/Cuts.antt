@@ -1,13 +1,18 @@
 -- The blocks into which a range is cut.
 use Rattle.std.proofs.Common.{◌≡◌, ℕ, zero, suc, ◌+◌, ◌-◌, ◌%◌, ◌<◌, ◌≤◌, ◌==◌, not, List, [], ◌∷◌, true, false, refl, ap, sym, ◌∙◌, arith}
-use Rattle.std.proofs.Common.{subst, inl, inr}
+use Rattle.std.proofs.Common.{subst, inl, inr, Bool}
+use Rattle.std.specs.List.{AllByRecursion}
 use Rattle.std.proofs.lemmas.Bool.{cases_Bool, true≢false, or_parts, eq-eqb, cases_lt, not-false}
 use Rattle.std.proofs.Math.Nat.{mod-add-mod, mod-eq_of_lt, mod-lt, mod_self}
+use Rattle.fb_units.proofs.Lists.{all_append}
 use Rattle.fb_geometry.specs.Shape.{Shape}
 use Rattle.fb_sectormap.specs.declared.cut.Cut.{Cut}
 use Rattle.fb_sectormap.specs.LookUp.{place_at, track_at}
 use Rattle.fb_sectormap.specs.Sweeps.{sweep_of}
 use Rattle.fb_sectormap.specs.Cutting.{IsOneTurn, cutting, with_sector, is_cut_before, is_later}
+use Rattle.fb_script.specs.Blocks.{live_cuts}
+use Rattle.fb_wanted.specs.declared.block.Block.{Block}
+use Rattle.fb_model.specs.Segments.{numbered}
 
 -- cuts that lie end to end, none beyond a multiple of the block size, each in one turn of its track, with its sweep
 abbrev pub AreCuts : Shape → ℕ → ℕ → ℕ → List Cut → Type 0
@@ -76,3 +81,41 @@ cuts_are disk block lbn (suc n) some =
 pub cuts_rise : (disk : Shape) (block from end : ℕ) (cuts : List Cut) → AreCuts disk block from end cuts → from ≤ end
 cuts_rise disk block from end [] h = omega (arith, h)
 cuts_rise disk block from end (cut ∷ cuts) h = omega (arith, cuts_rise disk block (from + cut.count) end cuts h.4)
+
+-- ---- each has a sector
+
+abbrev pub CutHasSector : Cut → Type 0
+CutHasSector cut = 0 < cut.count
+
+abbrev pub HasSector : Block → Type 0
+HasSector block = 0 < block.count
+
+cut_sector : (disk : Shape) (block lbn : ℕ) (cuts : List Cut) → AllByRecursion CutHasSector cuts
+    → AllByRecursion CutHasSector (with_sector disk block lbn cuts)
+cut_sector disk block lbn [] all = (omega arith, tt)
+cut_sector disk block lbn (cut ∷ cuts) all = elim (cases_Bool (is_cut_before disk block (lbn + 1))) [
+  | inl alone ↦ rw alone (omega arith, all)
+  | inr joined ↦ rw joined (omega arith, all.1)
+]
+
+pub cut_sectors : (disk : Shape) (block lbn n : ℕ) → AllByRecursion CutHasSector (cutting disk block lbn n)
+unfolding cutting
+cut_sectors disk block lbn zero = tt
+cut_sectors disk block lbn (suc n) = cut_sector disk block lbn (cutting disk block (lbn + 1) n) (cut_sectors disk block (lbn + 1) n)
+
+pub live_sectors : (disk : Shape) (block lbn : ℕ) (lives : List Bool) → AllByRecursion CutHasSector (live_cuts disk block lbn lives)
+live_sectors disk block lbn [] = tt
+live_sectors disk block lbn (true ∷ lives) = all_append CutHasSector (cutting disk block lbn block)
+    (live_cuts disk block (lbn + block) lives) (cut_sectors disk block lbn block) (live_sectors disk block (lbn + block) lives)
+live_sectors disk block lbn (false ∷ lives) = live_sectors disk block (lbn + block) lives
+
+-- what holds of the ranges of cuts holds of those of their blocks
+pub all_numbered : (P : ℕ → ℕ → Type 0) (task weight n : ℕ) (cuts : List Cut) → AllByRecursion (λ (cut : Cut). P cut.lbn cut.count) cuts
+    → AllByRecursion (λ (block : Block). P block.lbn block.count) (numbered task weight n cuts)
+all_numbered P task weight n [] all = tt
+all_numbered P task weight n (cut ∷ cuts) all = (all.0, all_numbered P task weight (n + 1) cuts all.1)
+
+-- each block that a range is cut into has a sector
+pub numbered_sectors : (task weight n : ℕ) (cuts : List Cut) → AllByRecursion CutHasSector cuts
+    → AllByRecursion HasSector (numbered task weight n cuts)
+numbered_sectors task weight n cuts all = all_numbered (λ lbn count. 0 < count) task weight n cuts all

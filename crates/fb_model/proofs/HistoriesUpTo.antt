@@ -1,7 +1,7 @@
 -- What a history holds: blocks that were cut, and deliveries that a test can look back at.
-use Rattle.std.proofs.Common.{◌≡◌, ℕ, zero, suc, ◌+◌, ◌<◌, ◌≤◌, List, [], ◌∷◌, ◌++◌, length, map, refl, ap, ap₂, sym, subst, ◌∙◌, arith}
-use Rattle.std.proofs.Common.{Bool, true, false, inl, inr, nat_le}
-use Rattle.std.specs.Prelude.{filter, drop, ◌&&◌, not, if◌then◌else◌}
+use Rattle.std.proofs.Common.{◌≡◌, ℕ, zero, suc, ◌<◌, ◌≤◌, List, [], ◌∷◌, ◌++◌, length, map, refl, ap, ap₂, sym, ◌∙◌, arith}
+use Rattle.std.proofs.Common.{Bool, true, inl, inr, nat_le}
+use Rattle.std.specs.Prelude.{filter, drop}
 use Rattle.std.specs.List.{AllByRecursion, fold, best_of}
 use Rattle.std.proofs.lemmas.Bool.{cases_Bool}
 use Rattle.std.proofs.lemmas.List.{drop_all}
@@ -9,55 +9,24 @@ use Rattle.fb_units.proofs.Comparing.{after_is, by_later, is_after}
 use Rattle.fb_units.proofs.Lists.{all_weaker, all_append, all_filter}
 use Rattle.fb_units.proofs.Filtered.{kept_twice}
 use Rattle.fb_geometry.specs.Shape.{Shape}
-use Rattle.fb_sectormap.specs.declared.cut.Cut.{Cut}
-use Rattle.fb_sectormap.specs.Cutting.{cutting, with_sector, is_cut_before}
+use Rattle.fb_sectormap.specs.Cutting.{cutting}
 use Rattle.fb_script.specs.declared.call.Action.{Action}
 use Rattle.fb_script.specs.declared.call.Action.TheVariants.{Want}
 use Rattle.fb_script.specs.declared.call.Call.{Call}
 use Rattle.fb_script.specs.Blocks.{live_cuts}
 use Rattle.fb_script.specs.Sessions.{is_clean}
-use Rattle.fb_wanted.specs.declared.block.Block.{Block}
 use Rattle.fb_wanted.specs.States.{is_wanted}
 use Rattle.fb_rows.specs.declared.back.DeliveryRow.{DeliveryRow}
 use Rattle.fb_model.specs.Inputs.{Inputs}
-use Rattle.fb_model.specs.Decisions.{Decision, serves, idles, ends, instant_of}
-use Rattle.fb_model.specs.History.{Event, called, chose, tested, delivered, finished, Past, LogSegment, task_numbers, terms_of, blocks_of}
-use Rattle.fb_model.specs.History.{registered, wanted, state, calls_of}
-use Rattle.fb_model.specs.Completion.{work, segments, is_closed}
-use Rattle.fb_model.specs.Segments.{numbered, is_better, is_busy, unchosen, choose_best, choose_once, choose_up_to, choose_in, with_choices}
-use Rattle.fb_model.specs.Steps.{Delivery, Step, decision_in, blocks_by, take_call, calls_left, calls_due, chosen_past, with_delivery}
-use Rattle.fb_model.specs.Steps.{with_finish, tested_past, past_after}
+use Rattle.fb_model.specs.Decisions.{Decision, instant_of}
+use Rattle.fb_model.specs.History.{Event, called, chose, tested, delivered, finished, Past, terms_of, blocks_of, registered, wanted, state}
+use Rattle.fb_model.specs.History.{calls_of}
+use Rattle.fb_model.specs.Segments.{is_better, with_choices}
+use Rattle.fb_model.specs.Steps.{Delivery, Step, decision_in, blocks_by, take_call, calls_left, calls_due, chosen_past, past_after}
 use Rattle.fb_model.specs.Accepted.{IsRising}
-
--- ---- each block has a sector
-
-abbrev pub HasSector : Block → Type 0
-HasSector block = 0 < block.count
-
-cut_sector : (disk : Shape) (block lbn : ℕ) (cuts : List Cut) → AllByRecursion (λ (cut : Cut). 0 < cut.count) cuts
-    → AllByRecursion (λ (cut : Cut). 0 < cut.count) (with_sector disk block lbn cuts)
-cut_sector disk block lbn [] all = (omega arith, tt)
-cut_sector disk block lbn (cut ∷ cuts) all = elim (cases_Bool (is_cut_before disk block (lbn + 1))) [
-  | inl alone ↦ rw alone (omega arith, all)
-  | inr joined ↦ rw joined (omega arith, all.1)
-]
-
-cut_sectors : (disk : Shape) (block lbn n : ℕ) → AllByRecursion (λ (cut : Cut). 0 < cut.count) (cutting disk block lbn n)
-unfolding cutting
-cut_sectors disk block lbn zero = tt
-cut_sectors disk block lbn (suc n) = cut_sector disk block lbn (cutting disk block (lbn + 1) n) (cut_sectors disk block (lbn + 1) n)
-
-live_sectors : (disk : Shape) (block lbn : ℕ) (lives : List Bool)
-    → AllByRecursion (λ (cut : Cut). 0 < cut.count) (live_cuts disk block lbn lives)
-live_sectors disk block lbn [] = tt
-live_sectors disk block lbn (true ∷ lives) = all_append (λ (cut : Cut). 0 < cut.count) (cutting disk block lbn block) (live_cuts disk block
-    (lbn + block) lives) (cut_sectors disk block lbn block) (live_sectors disk block (lbn + block) lives)
-live_sectors disk block lbn (false ∷ lives) = live_sectors disk block (lbn + block) lives
-
-numbered_sectors : (task weight n : ℕ) (cuts : List Cut) → AllByRecursion (λ (cut : Cut). 0 < cut.count) cuts
-    → AllByRecursion HasSector (numbered task weight n cuts)
-numbered_sectors task weight n [] all = tt
-numbered_sectors task weight n (cut ∷ cuts) all = (all.0, numbered_sectors task weight (n + 1) cuts all.1)
+pub use Rattle.fb_model.proofs.Cuts.{HasSector}
+use Rattle.fb_model.proofs.Cuts.{cut_sectors, live_sectors, numbered_sectors}
+use Rattle.fb_model.proofs.Events.{IsKeptBy, by_choices, by_calls, by_step}
 
 -- ---- what events have
 
@@ -100,15 +69,9 @@ module _ (P : DeliveryRow → Type 0) where
       (cutting disk (terms_of past task).block first count) (cut_sectors disk (terms_of past task).block first count)
   blocks_fine disk past task _ = tt
 
-  calls_fine : (disk : Shape) (calls : List Call) (past : Past) → AreFine P past → AreFine P (fold (take_call disk) past calls)
-  calls_fine disk [] past all = all
-  calls_fine disk (call ∷ calls) past all =
-      calls_fine disk calls (take_call disk past call) (blocks_fine disk past call.task call.action, all)
-
-  best_fine : (disk : Shape) (task : ℕ) (past : Past) (segments : List LogSegment) → AreFine P past
-      → AreFine P (choose_best disk task past segments)
-  best_fine disk task past [] all = all
-  best_fine disk task past (segment ∷ segments) all =
+  -- a choice registers blocks that have sectors
+  choice_fine : (disk : Shape) (past : Past) (task : ℕ) → is_clean (terms_of past task).kind ≡ true → IsKeptBy disk (AreFine P) task past
+  choice_fine disk past task cleans segment segments are all =
       let best = best_of is_better segment segments in
       let cuts = live_cuts disk (terms_of past task).block best.first best.live in (
         numbered_sectors task (terms_of past task).weight (length (blocks_of past task)) cuts (live_sectors disk
@@ -116,51 +79,19 @@ module _ (P : DeliveryRow → Type 0) where
         all,
       )
 
-  once_fine : (disk : Shape) (task : ℕ) (past : Past) → AreFine P past → AreFine P (choose_once disk task past)
-  once_fine disk task past all = elim (cases_Bool (is_busy (work past task))) [
-    | inl busy ↦ subst (λ b. AreFine P (if b then past else choose_best disk task past (unchosen (work past task)))) (sym busy) all
-    | inr idle ↦ subst (λ b. AreFine P (if b then past else choose_best disk task past (unchosen (work past task)))) (sym idle)
-        (best_fine disk task past (unchosen (work past task)) all)
-  ]
-
-  up_to_fine : (n : ℕ) (disk : Shape) (task : ℕ) (past : Past) → AreFine P past → AreFine P (choose_up_to n disk task past)
-  up_to_fine zero disk task past all = all
-  up_to_fine (suc n) disk task past all = up_to_fine n disk task (choose_once disk task past) (once_fine disk task past all)
-
-  in_fine : (disk : Shape) (past : Past) (task : ℕ) → AreFine P past → AreFine P (choose_in disk past task)
-  in_fine disk past task all = elim (cases_Bool (is_clean (terms_of past task).kind && not (is_closed past task))) [
-    | inl cleans ↦ subst (λ b. AreFine P (if b then choose_up_to (length (segments past task)) disk task past else past)) (sym cleans)
-        (up_to_fine (length (segments past task)) disk task past all)
-    | inr other ↦ subst (λ b. AreFine P (if b then choose_up_to (length (segments past task)) disk task past else past)) (sym other) all
-  ]
-
-  choices_fine : (disk : Shape) (tasks : List ℕ) (past : Past) → AreFine P past → AreFine P (fold (choose_in disk) past tasks)
-  choices_fine disk [] past all = all
-  choices_fine disk (task ∷ tasks) past all = choices_fine disk tasks (choose_in disk past task) (in_fine disk past task all)
-
   pub chosen_fine : (inputs : Inputs) (past : Past) (decision : Decision) → AreFine P past → AreFine P (chosen_past inputs past decision)
-  unfolding chosen_past with_choices
+  unfolding chosen_past
   chosen_fine inputs past decision all =
-      let called = fold (take_call inputs.disk.map) past (calls_due inputs.calls past (instant_of decision)) in
-      choices_fine inputs.disk.map (task_numbers called) called
-      (calls_fine inputs.disk.map (calls_due inputs.calls past (instant_of decision)) past all)
-
-  deliveries_fine : (deliveries : List Delivery) (past : Past) → AllByRecursion (λ (d : Delivery). P d.got) deliveries → AreFine P past
-      → AreFine P (fold with_delivery past deliveries)
-  deliveries_fine [] past each all = all
-  deliveries_fine (delivery ∷ deliveries) past each all =
-      deliveries_fine deliveries (with_delivery past delivery) each.1 (tt, (each.0, all))
-
-  finish_fine : (past : Past) (decision : Decision) → AreFine P past → AreFine P (with_finish past decision)
-  finish_fine past (serves served) all = (tt, all)
-  finish_fine past (idles dwell) all = all
-  finish_fine past (ends now) all = all
+      let disk = inputs.disk.map in
+      let due = calls_due inputs.calls past (instant_of decision) in
+      by_choices (AreFine P) disk (choice_fine disk) (fold (take_call disk) past due)
+      (by_calls (AreFine P) disk (λ past call all. (blocks_fine disk past call.task call.action, all)) due past all)
 
   pub after_fine : (inputs : Inputs) (past : Past) (step : Step) → AllByRecursion (λ (d : Delivery). P d.got) step.deliveries
       → AreFine P past → AreFine P (past_after inputs past step)
-  unfolding past_after
-  after_fine inputs past step each all = finish_fine (fold with_delivery (tested_past inputs past step) step.deliveries) (decision_in step)
-      (deliveries_fine step.deliveries (tested_past inputs past step) each (tt, chosen_fine inputs past (decision_in step) all))
+  after_fine inputs past step each all =
+      by_step (AreFine P) P (λ past rows all. (tt, all)) (λ past row have all. (have, all)) (λ past request all. (tt, all))
+      inputs past step each (chosen_fine inputs past (decision_in step) all)
 
 -- ---- no test looks back further than to the last delivery's beginning
 

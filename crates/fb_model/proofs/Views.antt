@@ -64,8 +64,8 @@ module _ (past : Past) (call : Call) (kept : tasks (called call [] ∷ past) ≡
   unfolding view bare_state content_of
   added-view first blocks age live own is = rw (append-nil, list_any-append, is, same_number call.task task own, or-false) refl
 
--- a task is opened
-index_other : {X : Type 0} (xs : List X) (x d : X) (i : ℕ) → (length xs == i) ≡ false
+-- one element more leaves those at other indexes
+pub index_other : {X : Type 0} (xs : List X) (x d : X) (i : ℕ) → (length xs == i) ≡ false
     → slice_index_or (xs ++ x ∷ []) i d ≡ slice_index_or xs i d
 index_other [] x d zero h = absurd (grind (arith, nat_tests))
 index_other [] x d (suc i) h = refl

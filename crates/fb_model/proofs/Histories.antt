@@ -1,0 +1,73 @@
+-- What holds of the history of accepted inputs: the rules of its calls, and what each thing that can happen keeps.
+use Rattle.std.proofs.Common.{◌≡◌, ℕ, List, [], ◌∷◌, ◌++◌, length, length-append, append-nil, true, drop, refl, ap, sym, subst, ◌∙◌}
+use Rattle.std.specs.List.{fold}
+use Rattle.std.proofs.lemmas.List.{drop-drop}
+use Rattle.std.proofs.lemmas.List.Concat.{flat_map-append}
+use Rattle.fb_units.specs.declared.types.Request.{Request}
+use Rattle.fb_units.proofs.Each.{all_any}
+use Rattle.fb_geometry.specs.Shape.{Shape}
+use Rattle.fb_script.specs.declared.call.Action.{Action}
+use Rattle.fb_script.specs.declared.call.Action.TheVariants.{Open}
+use Rattle.fb_script.specs.declared.call.Call.{Call}
+use Rattle.fb_script.specs.Allowed as allowed
+use Rattle.fb_script.specs.Allowed.{AreAllowed, MayAsk, Terms, terms_in}
+use Rattle.fb_script.specs.Sessions.{is_clean}
+use Rattle.fb_rows.specs.declared.back.BackRow.{BackRow}
+use Rattle.fb_rows.specs.declared.back.DeliveryRow.{DeliveryRow}
+use Rattle.fb_model.specs.Inputs.{Inputs}
+use Rattle.fb_model.specs.Decisions.{Decision, instant_of}
+use Rattle.fb_model.specs.History.{Past, called, tested, delivered, finished, calls_of, opened_by, tasks, terms_of}
+use Rattle.fb_model.specs.Steps.{Delivery, Step, decision_in, take_call, calls_left, calls_due, chosen_past, past_after}
+use Rattle.fb_model.proofs.HistoriesUpTo.{RiseInTime, due_first}
+use Rattle.fb_model.proofs.Events.{IsKeptBy, by_choices, by_step}
+
+-- ---- its tasks are those that its calls open
+
+opened_more : (action : Action) (before : List Terms) → before ++ terms_in action ≡ opened_by action before
+opened_more (Open kind weight block) before = refl
+opened_more _ before = append-nil before
+
+pub opened_same : (past : Past) → allowed.tasks (calls_of past) ≡ tasks past
+opened_same [] = refl
+opened_same (called call blocks ∷ past) = flat_map-append (λ (call : Call). terms_in call.action) (calls_of past) (call ∷ [])
+    ∙ rw (append-nil (terms_in call.action), opened_same past) (opened_more call.action (tasks past))
+opened_same (_ ∷ past) = opened_same past
+
+-- ---- what each thing that can happen keeps
+
+pub record IsKept (disk : Shape) (P : Past → Type 0) : Type 0 where
+  pub call : (past : Past) (call : Call) → MayAsk disk (calls_of past) call.task call.action → P past → P (take_call disk past call)
+  pub choice : (past : Past) (task : ℕ) → is_clean (terms_of past task).kind ≡ true → IsKeptBy disk P task past
+  pub test : (past : Past) (rows : List BackRow) → P past → P (tested rows ∷ past)
+  pub delivery : (past : Past) (row : DeliveryRow) → P past → P (delivered row ∷ past)
+  pub finish : (past : Past) (request : Request) → P past → P (finished request ∷ past)
+
+-- it holds so far, and the calls that are left obey their rules
+abbrev pub HoldsSoFar : Inputs → (Past → Type 0) → Past → Type 0
+HoldsSoFar inputs P past = AreAllowed inputs.disk.map (calls_of past) (calls_left inputs.calls past) × P past
+
+module _ (inputs : Inputs) (rising : RiseInTime inputs.calls) (P : Past → Type 0) (keeps : IsKept inputs.disk.map P) where
+  calls_hold : (due rest : List Call) (past : Past) → calls_left inputs.calls past ≡ due ++ rest → HoldsSoFar inputs P past
+      → HoldsSoFar inputs P (fold (take_call inputs.disk.map) past due)
+  calls_hold [] rest past next h = h
+  calls_hold (call ∷ due) rest past next h =
+      let may = subst (AreAllowed inputs.disk.map (calls_of past)) next h.0 in
+      let left : calls_left inputs.calls (take_call inputs.disk.map past call) ≡ due ++ rest =
+      ap (λ n. drop n inputs.calls) (length-append (calls_of past) (call ∷ []))
+      ∙ (sym (drop-drop 1 (length (calls_of past)) inputs.calls) ∙ ap (drop 1) next) in
+      calls_hold due rest (take_call inputs.disk.map past call) left
+      (subst (AreAllowed inputs.disk.map (calls_of past ++ call ∷ [])) (sym left) may.2, keeps.call past call may.1 h.1)
+
+  pub chosen_holds : (past : Past) (decision : Decision) → HoldsSoFar inputs P past → HoldsSoFar inputs P (chosen_past inputs past decision)
+  unfolding chosen_past
+  chosen_holds past decision h =
+      let due = calls_due inputs.calls past (instant_of decision) in
+      let rest = due_first inputs.calls past (instant_of decision) rising in
+      by_choices (HoldsSoFar inputs P) inputs.disk.map (λ p task cleans s ss are now. (now.0, keeps.choice p task cleans s ss are now.1))
+      (fold (take_call inputs.disk.map) past due) (calls_hold due rest.0 past rest.1 h)
+
+  pub after_holds : (past : Past) (step : Step) → HoldsSoFar inputs P (chosen_past inputs past (decision_in step))
+      → HoldsSoFar inputs P (past_after inputs past step)
+  after_holds past step h = by_step (HoldsSoFar inputs P) (λ row. Unit {0}) (λ p rows now. (now.0, keeps.test p rows now.1))
+      (λ p row any now. (now.0, keeps.delivery p row now.1)) (λ p request now. (now.0, keeps.finish p request now.1)) inputs past step
+      (all_any (λ (d : Delivery). Unit {0}) (λ d. tt) step.deliveries) h
