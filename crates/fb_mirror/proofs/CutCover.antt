@@ -44,25 +44,6 @@ cuts_end disk block lbn zero end within = tt
 cuts_end disk block lbn (suc n) end within = with_ends disk block lbn end (cutting disk block (lbn + 1) n) (omega arith) (begins disk block
     (lbn + 1) n) (cuts_end disk block (lbn + 1) n end (omega arith))
 
--- ---- each has a sector
-
-abbrev pub HasSectors : Cut → Type 0
-HasSectors cut = 0 < cut.count
-
-with_some : (disk : Shape) (block lbn : ℕ) (cuts : List Cut) → AllByRecursion HasSectors cuts
-    → AllByRecursion HasSectors (with_sector disk block lbn cuts)
-with_some disk block lbn [] all = (omega arith, tt)
-with_some disk block lbn (cut ∷ cuts) all = by (is_cut_before disk block (lbn + 1))
-  where
-    by : (b : Bool) → AllByRecursion HasSectors (if b then cut_of disk lbn 1 ∷ cut ∷ cuts else cut_of disk lbn (cut.count + 1) ∷ cuts)
-    by true = (omega arith, all)
-    by false = (omega arith, all.1)
-
-pub cuts_some : (disk : Shape) (block lbn n : ℕ) → AllByRecursion HasSectors (cutting disk block lbn n)
-unfolding cutting
-cuts_some disk block lbn zero = tt
-cuts_some disk block lbn (suc n) = with_some disk block lbn (cutting disk block (lbn + 1) n) (cuts_some disk block (lbn + 1) n)
-
 -- ---- what holds of the sectors of each holds of all sectors of the range
 
 module _ (Q : ℕ → Type 0) where

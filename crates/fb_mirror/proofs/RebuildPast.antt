@@ -6,7 +6,7 @@ use Rattle.std.specs.List.{AllByRecursion, fold, list_all, range_with_len, slice
 use Rattle.std.proofs.lemmas.Bool.{cases_Bool, true≢false, and_parts, eqb-true}
 use Rattle.std.proofs.lemmas.Option.{same_Some}
 use Rattle.fb_units.proofs.Among.{Among}
-use Rattle.fb_units.proofs.Each.{all_with, list_all_each}
+use Rattle.fb_units.proofs.Each.{all_with, all_unmapped, list_all_each}
 use Rattle.fb_units.proofs.Lists.{all_filter, all_from_index, all_weaker}
 use Rattle.fb_units.proofs.Comparing.{by_is}
 use Rattle.fb_geometry.specs.Shape.{Shape}
@@ -24,16 +24,16 @@ use Rattle.fb_wanted.specs.declared.block.State.TheVariants.{Wanted, Delivered}
 use Rattle.fb_wanted.specs.States.{is_delivered, is_wanted}
 use Rattle.fb_rows.specs.declared.back.DeliveryRow.{DeliveryRow}
 use Rattle.fb_model.specs.Inputs.{Inputs}
-use Rattle.fb_model.specs.Decisions.{Decision, serves, idles, ends, instant_of}
+use Rattle.fb_model.specs.Decisions.{Decision, instant_of}
 use Rattle.fb_model.specs.History.{Event, called, chose, tested, delivered, finished, Past, aborts, bare_state, blocks_of, calls_of}
 use Rattle.fb_model.specs.History.{is_open_backup, is_sealed, overwrites, registered, registers, same_block, state, state_after_event}
 use Rattle.fb_model.specs.History.{tasks, terms_of, wanted}
 use Rattle.fb_model.specs.Completion.{is_complete, is_complete_as, is_closed, is_over, own_of, segments, work}
 use Rattle.fb_model.specs.Segments.{choose_in, choose_up_to, numbered, with_choices}
-use Rattle.fb_model.specs.Steps.{Delivery, Step, decision_in, calls_due, past_after, chosen_past, take_call, tested_past, with_delivery}
-use Rattle.fb_model.specs.Steps.{with_finish}
+use Rattle.fb_model.specs.Steps.{Delivery, Step, decision_in, calls_due, past_after, chosen_past, take_call}
 use Rattle.fb_mirror.specs.Script.{rebuild_calls}
-use Rattle.fb_mirror.proofs.CutCover.{HasSectors, cuts_some}
+use Rattle.fb_model.proofs.Cuts.{cut_sectors, numbered_sectors}
+use Rattle.fb_model.proofs.Events.{by_step}
 
 -- the blocks of the whole disk
 abbrev pub disk_blocks : Shape → List Block
@@ -153,43 +153,24 @@ module _ (P : DeliveryRow → Type 0) (inputs : Inputs) (calls : inputs.calls �
       record { events = []; is = ap (λ past. chosen_past inputs past decision) none ∙ first_chosen inputs decision calls; quiet = tt }
   chosen_rebuilds past decision (inr is) = subst (IsRebuilding P inputs.disk.map) (sym (still_chosen past decision is)) is
 
-  deliveries_rebuild : (past : Past) (deliveries : List Delivery) → IsRebuilding P inputs.disk.map past
-      → AllByRecursion P (map (λ (delivery : Delivery). delivery.got) deliveries)
-      → IsRebuilding P inputs.disk.map (fold with_delivery past deliveries)
-  deliveries_rebuild past [] is each = is
-  deliveries_rebuild past (delivery ∷ deliveries) is each =
-      deliveries_rebuild (with_delivery past delivery) deliveries
-      (rebuilding_more P inputs.disk.map (delivered delivery.got ∷ past) (tested delivery.after)
-      (rebuilding_more P inputs.disk.map past (delivered delivery.got) is each.0) tt) each.1
-
-  finish_rebuilds : (past : Past) (decision : Decision) → IsRebuilding P inputs.disk.map past
-      → IsRebuilding P inputs.disk.map (with_finish past decision)
-  finish_rebuilds past (serves served) is = rebuilding_more P inputs.disk.map past (finished served.request) is tt
-  finish_rebuilds past (idles dwell) is = is
-  finish_rebuilds past (ends now) is = is
-
   pub after_rebuilds : (past : Past) (step : Step) → IsUnderWay past
       → AllByRecursion P (map (λ (delivery : Delivery). delivery.got) step.deliveries)
       → IsRebuilding P inputs.disk.map (past_after inputs past step)
-  unfolding past_after
-  after_rebuilds past step is each = finish_rebuilds (fold with_delivery (tested_past inputs past step) step.deliveries) (decision_in step)
-      (deliveries_rebuild (tested_past inputs past step) step.deliveries
-      (rebuilding_more P inputs.disk.map (chosen_past inputs past (decision_in step)) (tested step.test)
-      (chosen_rebuilds past (decision_in step) is) tt) each)
+  after_rebuilds past step is each =
+      let disk = inputs.disk.map in
+      by_step (IsRebuilding P disk) P (λ past rows is. rebuilding_more P disk past (tested rows) is tt)
+      (λ past row have is. rebuilding_more P disk past (delivered row) is have)
+      (λ past request is. rebuilding_more P disk past (finished request) is tt) inputs past step
+      (all_unmapped P (λ (delivery : Delivery). delivery.got) step.deliveries each) (chosen_rebuilds past (decision_in step) is)
 
 -- ---- blocks by their numbers
 
 pub disk_ones : (disk : Shape) → AllByRecursion (Among (disk_blocks disk)) (disk_blocks disk)
 disk_ones disk = all_from_index (Among (disk_blocks disk)) (disk_blocks disk) (λ i block at. (i, at))
 
-numbered_some : (task weight n : ℕ) (cuts : List Cut) → AllByRecursion HasSectors cuts
-    → AllByRecursion (λ (block : Block). 0 < block.count) (numbered task weight n cuts)
-numbered_some task weight n [] all = tt
-numbered_some task weight n (cut ∷ cuts) all = (all.0, numbered_some task weight (n + 1) cuts all.1)
-
 -- each has a sector
 pub disk_some : (disk : Shape) → AllByRecursion (λ (block : Block). 0 < block.count) (disk_blocks disk)
-disk_some disk = numbered_some 0 1 0 (cutting disk 16 0 (length (places disk))) (cuts_some disk 16 0 (length (places disk)))
+disk_some disk = numbered_sectors 0 1 0 (cutting disk 16 0 (length (places disk))) (cut_sectors disk 16 0 (length (places disk)))
 
 -- what the blocks of the disk have, the wanted ones have
 pub wanted_have : (P : DeliveryRow → Type 0) (disk : Shape) (past : Past) (Q : Block → Type 0) → IsRebuilding P disk past

@@ -23,7 +23,7 @@ use Rattle.fb_model.proofs.Events.{IsKeptBy, by_choices, by_step}
 
 -- ---- its tasks are those that its calls open
 
-opened_more : (action : Action) (before : List Terms) → before ++ terms_in action ≡ opened_by action before
+pub opened_more : (action : Action) (before : List Terms) → before ++ terms_in action ≡ opened_by action before
 opened_more (Open kind weight block) before = refl
 opened_more _ before = append-nil before
 
