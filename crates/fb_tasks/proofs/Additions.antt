@@ -14,7 +14,8 @@ use Rattle.fb_tasks.proofs.Words.{all_append, any_of_none, each_push, get_or_pus
 use Rattle.fb_tasks.proofs.Words.{slice_get_within}
 use Rattle.fb_tasks.proofs.Words.{places, is_clean, is_backup, Content, drop-append_seam, cutting, is_within, Wanted, is_delivered}
 use Rattle.fb_tasks.proofs.Words.{take_call, blocks_by, HasBegun, is_done, new_entries, entries_by, cuts_are, none_kept}
-use Rattle.fb_tasks.proofs.Rules.{opened_same, open_there, terms_there, given_few}
+use Rattle.fb_model.proofs.Histories.{opened_same}
+use Rattle.fb_tasks.proofs.Rules.{open_there, terms_there, given_few}
 use Rattle.fb_tasks.proofs.{Frames.kept-entries, Frames.one-tells, States.seen}
 use Rattle.fb_tasks.proofs.Registered.{named_same, numbered_joined, fresh_wanted, registered-entries}
 use Rattle.fb_tasks.proofs.Cuts.{cuts_placed, cuts_ascend, cuts_begin, cuts_numbered, cuts_own, cuts_count}

@@ -8,11 +8,12 @@ use Rattle.fb_tasks.proofs.Words.{LogSegment, chose, tasks, task_numbers, regist
 use Rattle.fb_tasks.proofs.Words.{choose_in, is_better, is_busy, is_chosen, unchosen, with_choices, segment_rows_found, Session}
 use Rattle.fb_tasks.proofs.Words.{Stands, MayChoose, AreReported, IsSegmentOf, HasNoChoice, HoldsBlocks, IsQuiet, IsAtWork}
 use Rattle.fb_tasks.proofs.Words.{HaveChosen, choosable_by, flat_same, element_at, ne_eqb, each_set, step_to}
-use Rattle.fb_tasks.proofs.Words.{AllByRecursion, sum_by, best_of, flat_map, fold, range_with_len, sum_by-cons, slice_get_within, Block}
+use Rattle.fb_tasks.proofs.Words.{AllByRecursion, sum_by, best_of, flat_map, fold, range_with_len, sum_by-cons, slice_get_within}
 use Rattle.fb_tasks.proofs.Words.{chosen-silent, MaySettle, TaskView, nil_from_length, HasChosenUpTo, kept_segment, all_range}
 use Rattle.fb_tasks.proofs.{ChoiceSteps.best_left, ChoiceSteps.chosen_blocks, ChoiceSteps.chosen_for, ChoiceSteps.next_view}
 use Rattle.fb_tasks.proofs.{States.seen, Segmented.numbered_given, ChoiceSteps.once_is, ChoiceSteps.left_less, ChoiceSteps.added_own}
 use Rattle.fb_tasks.proofs.{ChoiceSteps.segment_rows_of, ChoiceSteps.segment_rows_is, ChoiceSteps.few_less, ChoiceSteps.best_of_left}
+use Rattle.fb_model.proofs.Events.{IsKeptBy, by_in, by_tasks, by_task}
 use Rattle.fb_tasks.proofs.{RowsOf.reported_rows, Cuts.range_next, Tested.rows_more, Frames.set_same}
 
 up_to_still : (n : ℕ) (disk : Shape) (task : ℕ) (past : Past) → (0 < n → choose_once disk task past ≡ past)
@@ -126,58 +127,19 @@ module _ (disk : Shape) (task : ℕ) where
             (filter-le (λ s. not (is_chosen (view past task).choices s)) (view past task).segments))
         by false other = λ chooses free. absurd (true≢false (sym chooses ∙ other))
 
--- what holds of a history, and still after each choice of a task, holds after all of its choices
-module _ (P : Past → Type 0) (disk : Shape) (task : ℕ)
-    (kept : (past : Past) → P past → (s : LogSegment) (ss : List LogSegment) → unchosen (view past task).work ≡ s ∷ ss
-    → P (best_of_left disk task past (s ∷ ss))) where
-  by_once : (past : Past) → P past → P (choose_once disk task past)
-  by_once past h = subst P (sym (once_is disk past task)) (by_busy (is_busy (view past task).work)) where
-    by_left : (left : List LogSegment) → unchosen (view past task).work ≡ left → P (best_of_left disk task past left)
-    by_left [] are = h
-    by_left (s ∷ ss) are = kept past h s ss are
-
-    by_busy : (b : Bool) → P (if b then past else best_of_left disk task past (unchosen (view past task).work))
-    by_busy true = h
-    by_busy false = by_left (unchosen (view past task).work) refl
-
-  pub by_up_to : (n : ℕ) (past : Past) → P past → P (choose_up_to n disk task past)
-  by_up_to zero past h = h
-  by_up_to (suc n) past h = by_up_to n (choose_once disk task past) (by_once past h)
-
-  pub by_in : (past : Past) → P past → P (choose_in disk past task)
-  by_in past h = subst P (sym (in_is disk past task)) (by (is_clean (view past task).terms.kind && not (view past task).closed)) where
-    by : (b : Bool) → P (if b then choose_up_to (length (view past task).segments) disk task past else past)
-    by true = by_up_to (length (view past task).segments) past h
-    by false = h
+-- what a choice keeps that the view of its task allows
+pub by_view : (P : Past → Type 0) (disk : Shape) (task : ℕ) (past : Past) → ((s : LogSegment) (ss : List LogSegment)
+    → unchosen (view past task).work ≡ s ∷ ss → P past → P (best_of_left disk task past (s ∷ ss))) → IsKeptBy disk P task past
+unfolding view
+by_view P disk task past keeps = keeps
 
 -- another task's choices leave a task as it was
 pub in_same : (disk : Shape) (task other : ℕ) (past : Past) → (task ≡ other → ⊥) → view (choose_in disk past task) other ≡ view past other
-in_same disk task other past differ = by_in (λ p. view p other ≡ view past other) disk task
-    (λ p same s ss are. let best = best_of is_better s ss in
+in_same disk task other past differ =
+    let P = λ (p : Past). view p other ≡ view past other in
+    by_in P disk task (λ p cleans. by_view P disk task p (λ s ss are same. let best = best_of is_better s ss in
     chosen-silent p task best (chosen_blocks disk task (view p task) best) (added_own disk task (view p task) best) other
-    (ne_eqb task other differ) ∙ same) past refl
-
--- what still holds after each choice of any task holds after the choices of these tasks
-pub by_tasks : (P : Past → Type 0) (disk : Shape) → ((past : Past) (task : ℕ) → P past → (s : LogSegment) (ss : List LogSegment)
-    → unchosen (view past task).work ≡ s ∷ ss → P (best_of_left disk task past (s ∷ ss)))
-    → (ns : List ℕ) (past : Past) → P past → P (fold (choose_in disk) past ns)
-by_tasks P disk kept [] past h = h
-by_tasks P disk kept (n ∷ ns) past h = by_tasks P disk kept ns (choose_in disk past n) (by_in P disk n (λ p. kept p n) past h)
-
--- what holds after each choice holds after all
-module _ (P : Past → Type 0) (disk : Shape)
-    (kept : (past : Past) (task : ℕ) (segment : LogSegment) (blocks : List Block) → P past → P (chose task segment blocks ∷ past)) where
-  kept_by : (past : Past) (task : ℕ) → P past → (s : LogSegment) (ss : List LogSegment) → unchosen (view past task).work ≡ s ∷ ss
-      → P (best_of_left disk task past (s ∷ ss))
-  kept_by past task h s ss are =
-      kept past task (best_of is_better s ss) (chosen_blocks disk task (view past task) (best_of is_better s ss)) h
-
-  pub by_task : (task : ℕ) (past : Past) → P past → P (choose_in disk past task)
-  by_task task past h = by_in P disk task (λ p. kept_by p task) past h
-
-  pub by_all : (past : Past) → P past → P (with_choices disk past)
-  unfolding with_choices
-  by_all past h = by_tasks P disk kept_by (task_numbers past) past h
+    (ne_eqb task other differ) ∙ same)) past refl
 
 pub in_tasks : (disk : Shape) (task : ℕ) (past : Past) → tasks (choose_in disk past task) ≡ tasks past
 in_tasks disk task past = by_task (λ p. tasks p ≡ tasks past) disk (λ p chooser segment blocks same. same) task past refl
@@ -187,16 +149,17 @@ pub in_fewer : (disk : Shape) (task : ℕ) (past : Past)
     → AllByRecursion (IsSegmentOf disk (view past task).terms.block) (view past task).segments
     → length (registered (choose_in disk past task)) + choosable_by disk (choose_in disk past task) task
     ≤ length (registered past) + choosable_by disk past task
-in_fewer disk task past on_disk = (by_in (λ p. AllByRecursion (IsSegmentOf disk (view p task).terms.block) (view p task).segments
-    × (length (registered p) + choosable_by disk p task ≤ length (registered past) + choosable_by disk past task)) disk task
-    (λ p h s ss are. let best = best_of is_better s ss in (
+in_fewer disk task past on_disk =
+    let P = λ (p : Past). AllByRecursion (IsSegmentOf disk (view p task).terms.block) (view p task).segments
+    × (length (registered p) + choosable_by disk p task ≤ length (registered past) + choosable_by disk past task) in
+    (by_in P disk task (λ p cleans. by_view P disk task p (λ s ss are h. let best = best_of is_better s ss in (
       rw (next_view disk p task best) h.0,
       omega (
         arith,
         h.1,
         few_less disk p task best (best_left disk (view p task) s ss (rw (seen p task).segments (numbered_given p task)) h.0 are),
       ),
-    )) past (on_disk, omega arith)).1
+    ))) past (on_disk, omega arith)).1
 
 -- a task that stays gives the same rows
 pub rows-same : (past new : Past) (task now : ℕ) → view new task ≡ view past task
@@ -345,7 +308,7 @@ unfolding with_choices
 all-chosen {disk} {past} {sessions} {held} {instant} {before} {rows} h =
     let new = past_at disk past (length (tasks past)) in
     let numbers = range_with_len 0 (length (tasks past)) in
-    let count = ap length (by_tasks (λ p. tasks p ≡ tasks past) disk (λ p chooser same s ss are. same) numbers past refl) in
+    let count = ap length (by_tasks (λ p. tasks p ≡ tasks past) disk (λ p chooser cleans s ss are same. same) numbers past refl) in
     let whole = subst (Partly disk past sessions held instant before rows) h.as_many h in (
       record {
         as_many = h.as_many ∙ sym count;

@@ -11,7 +11,8 @@ use Rattle.fb_tasks.proofs.Words.{entries_after, entries_chosen}
 use Rattle.fb_tasks.proofs.Leaving.{grown_not, grown_more, grown_behind, begun_between, begun_each}
 use Rattle.fb_tasks.proofs.Registered.{numbered_joined, old-entries}
 use Rattle.fb_tasks.proofs.ChoiceSteps.{AreKnown, known-blocks, known-more, chosen_blocks, added_own, added_numbered, next_view, rows-chosen}
-use Rattle.fb_tasks.proofs.AllChoices.{by_up_to, by_tasks, by_all, up_to_split, choices_in, in_same, past_at, past_more, rows-same, Partly}
+use Rattle.fb_model.proofs.Events.{by_up_to, by_tasks, by_all}
+use Rattle.fb_tasks.proofs.AllChoices.{by_view, up_to_split, choices_in, in_same, past_at, past_more, rows-same, Partly}
 use Rattle.fb_tasks.proofs.RowsOf.{reported_rows}
 
 -- the blocks of each task are numbered
@@ -68,15 +69,16 @@ module _ (disk : Shape) (start past : Past) (task : ℕ) (best : LogSegment) whe
 goes-up_to : (disk : Shape) (past : Past) (task now n : ℕ) → AreAllNumbered past → AreKnown (view past task)
     → TaskGoesOn task now past (choose_up_to n disk task past)
 goes-up_to disk past task now n numbered known = by_up_to (TaskGoesOn task now past) disk task
-    (λ p h s ss are. task-chosen disk past p task (best_of is_better s ss) now h) n past (record {
+    (λ p. by_view (TaskGoesOn task now past) disk task p (λ s ss are. task-chosen disk past p task (best_of is_better s ss) now)) n past
+    (record {
       on = record { numbered = numbered; entries = grown_not (entries_after past) };
       known = known;
       rows = grown_not (segment_rows_found past now task);
     })
 
 goes-over : (disk : Shape) (past : Past) (ns : List ℕ) → AreAllNumbered past → GoesOn past (fold (choose_in disk) past ns)
-goes-over disk past ns numbered = by_tasks (GoesOn past) disk (λ p task h s ss are. on-chosen disk past p task (best_of is_better s ss) h)
-    ns past (record { numbered = numbered; entries = grown_not (entries_after past) })
+goes-over disk past ns numbered = by_tasks (GoesOn past) disk
+    (λ p task cleans. by_view (GoesOn past) disk task p (λ s ss are. on-chosen disk past p task (best_of is_better s ss))) ns past (record { numbered = numbered; entries = grown_not (entries_after past) })
 
 known-now : {disk : Shape} {past : Past} {task : ℕ} {session : Session} {held : List Entry} → MayChoose disk past task session held
     → AreKnown (view past task)

@@ -10,9 +10,11 @@ use Rattle.fb_tasks.proofs.Words.{called-silent, opened-silent, opened-view, add
 use Rattle.fb_tasks.proofs.Words.{take_call, blocks_by, with_delivery, choosable_by, IsSegmentOf, IsUntouched, choosable, Tells, MayTake}
 use Rattle.fb_tasks.proofs.Words.{eqb-true, other_number, ne_eqb, nat_tests, drop_more, take_more, slice_get_within}
 use Rattle.fb_tasks.proofs.Words.{get_or_from_slice_get, Entry, Session, delivery_of, IsCalled, all_range}
-use Rattle.fb_tasks.proofs.{Rules.opened_same, Rules.open_there, Rules.terms_there, Cuts.cuts_count, Cuts.range_next}
-use Rattle.fb_tasks.proofs.{Additions.next_segment, AllChoices.in_same, AllChoices.in_tasks, AllChoices.in_fewer, AllChoices.by_task}
-use Rattle.fb_tasks.proofs.{AllChoices.sum_range, AllChoices.choosable-same, AllChoices.by_all}
+use Rattle.fb_model.proofs.Events.{by_all, by_task}
+use Rattle.fb_model.proofs.Histories.{opened_same}
+use Rattle.fb_tasks.proofs.{Rules.open_there, Rules.terms_there, Cuts.cuts_count, Cuts.range_next}
+use Rattle.fb_tasks.proofs.{Additions.next_segment, AllChoices.in_same, AllChoices.in_tasks, AllChoices.in_fewer}
+use Rattle.fb_tasks.proofs.{AllChoices.sum_range, AllChoices.choosable-same}
 use Rattle.fb_tasks.proofs.States.{seen}
 use Rattle.fb_model.specs.History.{blocks_of}
 use Rattle.fb_tasks.specs.Telling.{calls_of}

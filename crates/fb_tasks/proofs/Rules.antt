@@ -1,20 +1,11 @@
 -- What the rules of calls say of a history.
-use Rattle.fb_tasks.proofs.Words.{◌≡◌, ℕ, ◌+◌, ◌<◌, ◌≤◌, ◌==◌, ◌&&◌, List, [], ◌∷◌, ◌++◌, false, length, append-nil, length-append, refl}
-use Rattle.fb_tasks.proofs.Words.{ap, sym, ◌∙◌, arith, subst, or-false, or_comm, slice_index_or, list_any-append, flat_map-append, Shape}
-use Rattle.fb_tasks.proofs.Words.{Action, Open, Segment, Call, Plain, MayAsk, terms_in, Entry, Past, LogSegment, called, calls_of, tasks}
+use Rattle.fb_tasks.proofs.Words.{◌≡◌, ℕ, ◌+◌, ◌<◌, ◌≤◌, ◌==◌, ◌&&◌, List, [], ◌∷◌, false, length, length-append, refl}
+use Rattle.fb_tasks.proofs.Words.{ap, sym, ◌∙◌, arith, subst, or-false, or_comm, slice_index_or, list_any-append, Shape}
+use Rattle.fb_tasks.proofs.Words.{Action, Open, Segment, Call, Plain, MayAsk, Entry, Past, LogSegment, called, calls_of, tasks}
 use Rattle.fb_tasks.proofs.Words.{opened_by, is_closed, segments, segment_by, view, Session, Tells, MayTake, take_call, blocks_by}
 use Rattle.fb_script.specs.Allowed.{Terms}
 use Rattle.fb_script.specs.Allowed as allowed
-
-opened_more : (action : Action) (before : List Terms) → before ++ terms_in action ≡ opened_by action before
-opened_more (Open kind weight block) before = refl
-opened_more _ before = append-nil before
-
-pub opened_same : (past : Past) → allowed.tasks (calls_of past) ≡ tasks past
-opened_same [] = refl
-opened_same (called call blocks ∷ past) = flat_map-append (λ (call : Call). terms_in call.action) (calls_of past) (call ∷ [])
-    ∙ rw (append-nil (terms_in call.action), opened_same past) (opened_more call.action (tasks past))
-opened_same (_ ∷ past) = opened_same past
+use Rattle.fb_model.proofs.Histories.{opened_same}
 
 -- a task is closed where one of its calls is a close
 pub closed_same : (past : Past) (task : ℕ) → allowed.is_closed (calls_of past) task ≡ is_closed past task
