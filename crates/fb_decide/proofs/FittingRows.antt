@@ -30,7 +30,7 @@ use Rattle.fb_model.specs.Steps.{opening, step_rows, task_row, task_rows}
 use Rattle.fb_model.specs.SoundRun.{AreFollowed}
 use Rattle.fb_tasks.specs.declared.session.Session.{Session}
 use Rattle.fb_tasks.specs.Telling.{Tells, IsBlockOf, calls_of}
-use Rattle.fb_tasks.proofs.Rules.{opened_same}
+use Rattle.fb_model.proofs.Histories.{opened_same}
 use Rattle.fb_decide.proofs.RegisteredBlocks.{registered_after, tasks_more}
 use Rattle.fb_rows.specs.Tasks.{HasTaskBelow}
 use Rattle.fb_decide.specs.Making.{IsMade}

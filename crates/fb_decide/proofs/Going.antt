@@ -43,7 +43,7 @@ use Rattle.fb_decide.proofs.Decided.{apart_instants, left_later, passed_instants
 use Rattle.fb_decide.proofs.Replayed.{row_made, replayed_more}
 use Rattle.fb_decide.proofs.Instants.{all_of_both, at_among}
 use Rattle.fb_decide.proofs.Mirroring.{held_until, mirrors_run, all_late, served_late}
-use Rattle.fb_tasks.proofs.AllChoices.{by_all}
+use Rattle.fb_model.proofs.Events.{by_all}
 
 -- ---- one more step
 

@@ -1,5 +1,5 @@
 -- Where registered blocks stand, and that two of the same number are one.
-use Rattle.std.proofs.Common.{◌≡◌, ℕ, zero, suc, ◌+◌, ◌<◌, ◌≤◌, ◌==◌, List, [], ◌∷◌, ◌++◌, true, false, Some, inl, inr, length}
+use Rattle.std.proofs.Common.{◌≡◌, ℕ, ◌<◌, ◌≤◌, ◌==◌, List, [], ◌∷◌, ◌++◌, true, false, Some, inl, inr, length}
 use Rattle.std.proofs.Common.{length-append, slice_get, append-nil, refl, ap, sym, ◌∙◌, arith, subst}
 use Rattle.std.specs.List.{AllByRecursion, list_any}
 use Rattle.std.proofs.lemmas.Bool.{and_parts, cases_Bool, cases_lt, eqb-true, true≢false}
@@ -23,6 +23,7 @@ use Rattle.fb_tasks.specs.Standing.{AreNumbered, IsBlockOf}
 use Rattle.fb_tasks.specs.Telling.{Tells}
 use Rattle.fb_decide.specs.Deliveries.{IsRegistered}
 use Rattle.fb_tasks.proofs.Registered.{own, itself}
+use Rattle.fb_tasks.proofs.Sealed.{numbered_at}
 
 pub each_in : {X : Type 0} (xs : List X) → AllByRecursion (Among xs) xs
 each_in xs = all_from_index (Among xs) xs (λ i x at. (i, at))
@@ -135,12 +136,6 @@ opened-kept past event none h =
     (all_weaker (λ (block : Block). block.task < length (tasks past)) (λ (block : Block). block.task < length (tasks (event ∷ past)))
     (λ block less. let more = tasks_more past event in omega (arith, less, more)) (registered past) h)
 
-number_at : (n : ℕ) (blocks : List Block) (i : ℕ) (block : Block) → AreNumbered n blocks → slice_get blocks i ≡ Some block
-    → block.index ≡ n + i
-number_at n [] i block numbered at = absurd (grind arith)
-number_at n (b ∷ blocks) zero block numbered at = subst (λ b. b.index ≡ n + 0) (same_Some b block at) (omega (arith, numbered.0))
-number_at n (b ∷ blocks) (suc i) block numbered at = let rest = number_at (n + 1) blocks i block numbered.1 at in omega (arith, rest)
-
 pub distinct : (past : Past) → ((task : ℕ) → AreNumbered 0 (blocks_of past task)) → AreDistinct past
 distinct past numbered a b there_a there_b same =
     let parts = and_parts (a.task == b.task) (a.index == b.index) same in
@@ -148,8 +143,8 @@ distinct past numbered a b there_a there_b same =
     let number = eqb-true a.index b.index parts.1 in
     let first = filter_to (λ block. block.task == b.task) (registered past) there_a.0 a there_a.1 parts.0 in
     let second = filter_to (λ block. block.task == b.task) (registered past) there_b.0 b there_b.1 (same_number b.task b.task refl) in
-    let first_number = number_at 0 (blocks_of past b.task) first.0 a (numbered b.task) first.1 in
-    let second_number = number_at 0 (blocks_of past b.task) second.0 b (numbered b.task) second.1 in
+    let first_number = numbered_at 0 first.0 (blocks_of past b.task) a (numbered b.task) first.1 in
+    let second_number = numbered_at 0 second.0 (blocks_of past b.task) b (numbered b.task) second.1 in
     let index : first.0 ≡ second.0 = omega (arith, number, first_number, second_number) in
     same_Some a b (sym first.1 ∙ (ap (slice_get (blocks_of past b.task)) index ∙ second.1))
 

@@ -1,5 +1,5 @@
 -- What deliveries found is true from decision to decision, and the rows of a decision are the disk's own.
-use Rattle.std.proofs.Common.{◌≡◌, ℕ, zero, suc, ◌<◌, ◌≤◌, ◌==◌, ◌&&◌, ◌||◌, not, if◌then◌else◌, List, [], ◌∷◌, ◌++◌, Bool, true, false}
+use Rattle.std.proofs.Common.{◌≡◌, ℕ, ◌<◌, ◌≤◌, ◌==◌, ◌&&◌, ◌||◌, not, if◌then◌else◌, List, [], ◌∷◌, ◌++◌, Bool, true, false}
 use Rattle.std.proofs.Common.{length, refl, ap, sym, ◌∙◌, arith, ◌+◌, ◌⊎◌, Option, Some, None, inl, inr, map, ap₂, subst}
 use Rattle.std.specs.List.{fold, list_any, slice_index_or, AllByRecursion, range_with_len}
 use Rattle.std.proofs.lemmas.Bool.{true≢false, cases_Bool}
@@ -24,13 +24,13 @@ use Rattle.fb_model.specs.Content.{Medium, contents_at}
 use Rattle.fb_model.specs.History.{Event, called, chose, tested, Past, LogSegment, Terms, tasks, terms_of, registered, bare_state}
 use Rattle.fb_model.specs.History.{content_of, is_sealed, is_seal_of, is_open_backup, ends_block, same_block, opened_by, delivered}
 use Rattle.fb_model.specs.History.{finished}
-use Rattle.fb_model.specs.Segments.{with_choices}
 use Rattle.fb_model.specs.Steps.{Step, take_call, calls_due, with_delivery, chosen_past, past_after, chosen_by}
 use Rattle.fb_model.specs.Images.{held_at_delivery, test_rows, findings}
 use Rattle.fb_decide.specs.Calls.{test_rows_by, tested_by}
 use Rattle.fb_decide.specs.Deliveries.{IsRegistered, followed, past_with}
 use Rattle.fb_decide.specs.Standing.{IsTrue, Mirrors, IsFoundIn}
-use Rattle.fb_tasks.proofs.AllChoices.{by_all}
+use Rattle.fb_model.proofs.Events.{by_all, by_calls}
+use Rattle.fb_model.proofs.Views.{index_other}
 use Rattle.fb_decide.proofs.RegisteredBlocks.{AreOpened, all_in, there_before, tasks_more, AreOwn, AreDistinct, still_there, distinct-kept}
 use Rattle.fb_decide.proofs.RegisteredBlocks.{opened-kept, opened-told, own-told, distinct-told}
 use Rattle.fb_store.specs.declared.content.Content.{Content}
@@ -95,15 +95,10 @@ still-then past mid new first second = record {
 }
 
 -- the first tasks keep their terms
-first_terms : (before : List Terms) (terms d : Terms) (task : ℕ) → task < length before
-    → slice_index_or (before ++ terms ∷ []) task d ≡ slice_index_or before task d
-first_terms [] terms d task less = absurd (omega arith)
-first_terms (t ∷ before) terms d zero less = refl
-first_terms (t ∷ before) terms d (suc task) less = first_terms before terms d task (omega (arith, less))
-
 terms_kept : (past : Past) (action : Action) (task : ℕ) → task < length (tasks past)
     → slice_index_or (opened_by action (tasks past)) task (record { kind = Plain; weight = 1; block = 1 }) ≡ terms_of past task
-terms_kept past (Open kind weight block) task less = first_terms (tasks past) _ _ task less
+terms_kept past (Open kind weight block) task less =
+    let other : (length (tasks past) == task) ≡ false = grind (arith, nat_tests) in index_other (tasks past) _ _ task other
 terms_kept past _ task less = refl
 
 unsealed : (backup now before : Bool) → (backup && not (now || before)) ≡ true → (backup && not before) ≡ true
@@ -149,20 +144,13 @@ unfolding bare_state content_of
 tested-still past rows = still-by past (tested rows) (λ block there done. (there_before past (tested rows) block refl there, done))
     (λ block. refl) (λ medium block. refl)
 
-pub calls-still : (disk : Shape) (past : Past) (calls : List Call) → IsStill past (fold (take_call disk) past calls)
-calls-still disk past [] = still-same past
-calls-still disk past (call ∷ calls) =
-    still-then past (take_call disk past call) _ (called-still past call _) (calls-still disk (take_call disk past call) calls)
-
-pub choices-still : (disk : Shape) (past : Past) → IsStill past (with_choices disk past)
-choices-still disk past = by_all (IsStill past) disk
-    (λ p task segment blocks h. still-then past p _ h (chosen-still p task segment blocks)) past (still-same past)
-
 -- the calls and choices of an instant
 pub chosen_by-still : (disk : Shape) (calls : List Call) (past : Past) (now : ℕ) → IsStill past (chosen_by disk calls past now)
 chosen_by-still disk calls past now =
-    let taken = fold (take_call disk) past (calls_due calls past now) in
-    still-then past taken (with_choices disk taken) (calls-still disk past (calls_due calls past now)) (choices-still disk taken)
+    let due = calls_due calls past now in
+    by_all (IsStill past) disk (λ p task segment blocks h. still-then past p _ h (chosen-still p task segment blocks))
+    (fold (take_call disk) past due)
+    (by_calls (IsStill past) disk (λ p call h. still-then past p _ h (called-still p call _)) due past (still-same past))
 
 -- ---- what deliveries found is true from decision to decision, and the rows of a decision are the disk's own
 
