@@ -1,10 +1,10 @@
 -- What a history has registered: blocks that have sectors, and for a backup those of one range.
-use Rattle.std.proofs.Common.{◌≡◌, ℕ, zero, suc, ◌<◌, ◌≤◌, ◌==◌, List, [], ◌∷◌, ◌++◌, Bool, true, false, inl, inr, length, length-append}
-use Rattle.std.proofs.Common.{drop, append-nil, refl, ap, sym, ◌∙◌, subst, arith}
-use Rattle.std.specs.Prelude.{◌&&◌, not, if◌then◌else◌}
-use Rattle.std.specs.List.{AllByRecursion, fold, best_of, slice_index_or}
+use Rattle.std.proofs.Common.{◌≡◌, ℕ, zero, suc, ◌≤◌, ◌==◌, List, [], ◌∷◌, ◌++◌, Bool, true, false, inl, inr, length, length-append}
+use Rattle.std.proofs.Common.{append-nil, refl, ap, sym, ◌∙◌, subst, arith}
+use Rattle.std.specs.Prelude.{◌&&◌}
+use Rattle.std.specs.List.{AllByRecursion, best_of, slice_index_or}
 use Rattle.std.proofs.Math.Bool.{or-true}
-use Rattle.std.proofs.lemmas.Bool.{and_parts, cases_Bool, cases_lt, eqb-true, ne_eqb, or_parts, true≢false}
+use Rattle.std.proofs.lemmas.Bool.{cases_Bool, eqb-true, ne_eqb, or_parts, true≢false}
 use Rattle.std.proofs.lemmas.List.Elements.{filter-append}
 use Rattle.std.proofs.lemmas.List.Folds.{list_any-append}
 use Rattle.fb_units.proofs.Comparing.{same_number}
@@ -18,22 +18,22 @@ use Rattle.fb_script.specs.declared.call.Action.{Action}
 use Rattle.fb_script.specs.declared.call.Action.TheVariants.{Open, Want}
 use Rattle.fb_script.specs.declared.call.Call.{Call}
 use Rattle.fb_script.specs.declared.call.Kind.TheVariants.{Plain}
-use Rattle.fb_script.specs.Allowed.{Terms, MayAsk, AreAllowed, has_want, is_want}
+use Rattle.fb_script.specs.Allowed.{Terms, MayAsk, has_want, is_want}
 use Rattle.fb_script.specs.Blocks.{live_cuts}
 use Rattle.fb_script.specs.Sessions.{is_backup, is_clean}
 use Rattle.fb_wanted.specs.declared.block.Block.{Block}
 use Rattle.fb_model.specs.Inputs.{Inputs}
 use Rattle.fb_model.specs.Accepted.{IsAccepted}
-use Rattle.fb_model.specs.Decisions.{Decision, serves, idles, ends, instant_of}
-use Rattle.fb_model.specs.History.{Past, LogSegment, chose, calls_of, opened_by, tasks, task_numbers, terms_of, registered, blocks_of}
-use Rattle.fb_model.specs.Completion.{view, work, segments, is_closed}
-use Rattle.fb_model.specs.Segments.{numbered, next_blocks, is_better, is_busy, unchosen, choose_best, choose_once, choose_up_to, choose_in}
-use Rattle.fb_model.specs.Segments.{with_choices}
-use Rattle.fb_model.specs.Steps.{Delivery, Step, decision_in, blocks_by, take_call, calls_due, chosen_past, with_delivery, with_finish}
-use Rattle.fb_model.specs.Steps.{tested_past, past_after}
-use Rattle.fb_model.proofs.HistoriesUpTo.{due_first}
+use Rattle.fb_model.specs.History.{Past, calls_of, opened_by, tasks, terms_of, registered, blocks_of}
+use Rattle.fb_model.specs.Completion.{view}
+use Rattle.fb_model.specs.Segments.{numbered, next_blocks, is_better}
+use Rattle.fb_model.specs.Steps.{blocks_by, take_call}
+use Rattle.fb_model.proofs.Cuts.{HasSector, cut_sectors, live_sectors, numbered_sectors}
+use Rattle.fb_model.proofs.Events.{IsKeptBy}
+use Rattle.fb_model.proofs.Histories.{IsKept, HoldsSoFar}
+use Rattle.fb_model.proofs.Views.{index_other}
 use Rattle.fb_tasks.proofs.Rules.{open_there, terms_there}
-use Rattle.fb_check.proofs.PrintingSectors.{HasSector, IsSome, sectors, own, some_cut, some_live, some_numbered, numbered_have, none_other}
+use Rattle.fb_check.proofs.PrintingSectors.{sectors, own, numbered_have, none_other}
 use Rattle.fb_check.proofs.PrintingSectors.{some_have, cuts_have}
 
 -- the terms of a task
@@ -45,36 +45,17 @@ pub record IsOneRange (limit : ℕ) (wants : Bool) (blocks : List Block) : Type 
   pub few : sectors blocks ≤ limit
   pub none : wants ≡ false → blocks ≡ []
 
--- each block has a sector and is of an opened task, a backup has those of one range, and the calls that are left keep their rules
-pub record HoldBlocks (disk : Shape) (calls : List Call) (blocks : List Block) (tasks : List Terms) (taken : List Call)
-    (count : ℕ) : Type 0 where
-  pub some : AllByRecursion IsSome blocks
+-- each block has a sector and is of an opened task, and a backup has those of one range
+pub record HoldBlocks (disk : Shape) (blocks : List Block) (tasks : List Terms) (taken : List Call) : Type 0 where
+  pub some : AllByRecursion HasSector blocks
   pub unopened : (task : ℕ) → length tasks ≤ task → own task blocks ≡ []
   pub backups : (task : ℕ) → is_backup (terms_at tasks task).kind ≡ true
       → IsOneRange (length (places disk)) (has_want taken task) (own task blocks)
-  pub left : AreAllowed disk taken (drop count calls)
 
-abbrev pub Holds : Shape → List Call → Past → Type 0
-Holds disk calls past = HoldBlocks disk calls (registered past) (tasks past) (calls_of past) (length (calls_of past))
+abbrev pub Holds : Shape → Past → Type 0
+Holds disk past = HoldBlocks disk (registered past) (tasks past) (calls_of past)
 
 -- ---- lists
-
-after_first : {X : Type 0} (n : ℕ) (xs : List X) (x : X) (rest : List X) → drop n xs ≡ x ∷ rest → drop (suc n) xs ≡ rest
-after_first zero [] x rest h = cc
-after_first zero (y ∷ xs) x rest h = cc
-after_first (suc n) [] x rest h = cc
-after_first (suc n) (y ∷ xs) x rest h = after_first n xs x rest h
-
-after_taken : (calls taken : List Call) (call : Call) (rest : List Call) → drop (length taken) calls ≡ call ∷ rest
-    → drop (length (taken ++ call ∷ [])) calls ≡ rest
-after_taken calls taken call rest next =
-    let count : length (taken ++ call ∷ []) ≡ suc (length taken) = omega (arith, length-append taken (call ∷ [])) in
-    ap (λ n. drop n calls) count ∙ after_first (length taken) calls call rest next
-
-terms_before : (tasks more : List Terms) (task : ℕ) → task < length tasks → terms_at (tasks ++ more) task ≡ terms_at tasks task
-terms_before [] more task less = absurd (omega arith)
-terms_before (terms ∷ tasks) more zero less = refl
-terms_before (terms ∷ tasks) more (suc task) less = terms_before tasks more task (omega arith)
 
 plain_beyond : (tasks : List Terms) (task : ℕ) → length tasks ≤ task → (terms_at tasks task).kind ≡ Plain
 plain_beyond [] zero beyond = refl
@@ -91,21 +72,21 @@ other_same owner task weight n cuts blocks other =
 
 -- ---- a call
 
-module _ (disk : Shape) (calls : List Call) where
-  module _ (past : Past) (call : Call) (h : Holds disk calls past) where
+module _ (disk : Shape) where
+  module _ (past : Past) (call : Call) (h : Holds disk past) where
     abbrev now : Action → List Block
     now action = registered past ++ blocks_by disk past call.task action
 
     abbrev IsBackup : Action → ℕ → Type 0
     IsBackup action task = is_backup (terms_at (opened_by action (tasks past)) task).kind ≡ true
 
-    some_now : (action : Action) → AllByRecursion IsSome (now action)
+    some_now : (action : Action) → AllByRecursion HasSector (now action)
     some_now (Want first count) =
         let block = (terms_of past call.task).block in
-        all_append IsSome (registered past) (blocks_by disk past call.task (Want first count)) h.some
-        (some_numbered call.task (terms_of past call.task).weight (length (blocks_of past call.task)) (cutting disk block first count)
-        (some_cut disk block first count))
-    some_now _ = all_append IsSome (registered past) [] h.some tt
+        all_append HasSector (registered past) (blocks_by disk past call.task (Want first count)) h.some
+        (numbered_sectors call.task (terms_of past call.task).weight (length (blocks_of past call.task)) (cutting disk block first count)
+        (cut_sectors disk block first count))
+    some_now _ = all_append HasSector (registered past) [] h.some tt
 
     unopened_now : (action : Action) → MayAsk disk (calls_of past) call.task action → (task : ℕ)
         → length (opened_by action (tasks past)) ≤ task → own task (now action) ≡ []
@@ -142,13 +123,14 @@ module _ (disk : Shape) (calls : List Call) where
         → IsBackup action task
         → IsOneRange (length (places disk)) (has_want (calls_of past ++ call ∷ []) task) (own task (now action))
     unfolding view
-    backups_now (Open kind weight block) is may task backup = elim (cases_lt task (length (tasks past))) [
-      | inl old ↦ kept task (now (Open kind weight block)) (ap (own task) (append-nil (registered past)))
-          (ap (λ (terms : Terms). is_backup terms.kind)
-          (sym (terms_before (tasks past) (record { kind = kind; weight = weight; block = block } ∷ []) task old)) ∙ backup)
-      | inr beyond ↦
+    backups_now (Open kind weight block) is may task backup = elim (cases_Bool (length (tasks past) == task)) [
+      | inl new ↦
           subst (IsOneRange (length (places disk)) (has_want (calls_of past ++ call ∷ []) task))
-          (sym (ap (own task) (append-nil (registered past)) ∙ h.unopened task beyond)) (record { few = omega arith; none = λ none. refl })
+          (sym (ap (own task) (append-nil (registered past)) ∙ h.unopened task (omega (arith, eqb-true (length (tasks past)) task new))))
+          (record { few = omega arith; none = λ none. refl })
+      | inr other ↦ kept task (now (Open kind weight block)) (ap (own task) (append-nil (registered past)))
+          (ap (λ (terms : Terms). is_backup terms.kind)
+          (sym (index_other (tasks past) (record { kind = kind; weight = weight; block = block }) _ task other)) ∙ backup)
     ]
     backups_now (Want first count) is may task backup =
         let terms = terms_of past call.task in
@@ -183,124 +165,58 @@ module _ (disk : Shape) (calls : List Call) where
         ]
     backups_now _ is may task backup = kept task (registered past ++ []) (ap (own task) (append-nil (registered past))) backup
 
-  call_holds : (past : Past) (call : Call) (rest : List Call) → drop (length (calls_of past)) calls ≡ call ∷ rest → Holds disk calls past
-      → Holds disk calls (take_call disk past call)
-  call_holds past call rest next h =
-      let may = subst (AreAllowed disk (calls_of past)) next h.left in
+  call_holds : (past : Past) (call : Call) → MayAsk disk (calls_of past) call.task call.action → Holds disk past
+      → Holds disk (take_call disk past call)
+  call_holds past call may h = record {
+    some = some_now past call h call.action;
+    unopened = unopened_now past call h call.action may;
+    backups = backups_now past call h call.action refl may;
+  }
+
+  -- ---- a choice
+
+  choice_holds : (past : Past) (task : ℕ) → is_clean (terms_of past task).kind ≡ true → IsKeptBy disk (Holds disk) task past
+  choice_holds past task cleans segment left are h =
+      let best = best_of is_better segment left in
+      let terms = terms_of past task in
+      let n = length (blocks_of past task) in
+      let cuts = live_cuts disk terms.block best.first best.live in
       record {
-        some = some_now past call h call.action;
-        unopened = unopened_now past call h call.action may.1;
-        backups = backups_now past call h call.action refl may.1;
-        left = subst (AreAllowed disk (calls_of past ++ call ∷ [])) (sym (after_taken calls (calls_of past) call rest next)) may.2;
+        some = all_append HasSector (registered past) (next_blocks past task cuts) h.some
+            (numbered_sectors task terms.weight n cuts (live_sectors disk terms.block best.first best.live));
+        unopened = λ other beyond. elim (cases_Bool (task == other)) [
+          | inl same ↦ absurd (true≢false (sym cleans ∙ ap (λ task. is_clean (terms_of past task).kind) (eqb-true task other same)
+              ∙ ap is_clean (plain_beyond (tasks past) other beyond)))
+          | inr differ ↦ other_same task other terms.weight n cuts (registered past) differ ∙ h.unopened other beyond
+        ];
+        backups = λ other backup. elim (cases_Bool (task == other)) [
+          | inl same ↦ absurd (no_backup (terms_of past task).kind cleans
+              (ap (λ task. is_backup (terms_of past task).kind) (eqb-true task other same) ∙ backup))
+          | inr differ ↦ subst (IsOneRange (length (places disk)) (has_want (calls_of past) other))
+              (sym (other_same task other terms.weight n cuts (registered past) differ)) (h.backups other backup)
+        ];
       }
 
-  calls_hold : (due rest : List Call) (past : Past) → drop (length (calls_of past)) calls ≡ due ++ rest → Holds disk calls past
-      → Holds disk calls (fold (take_call disk) past due)
-  calls_hold [] rest past next h = h
-  calls_hold (call ∷ due) rest past next h =
-      calls_hold due rest (take_call disk past call) (after_taken calls (calls_of past) call (due ++ rest) next)
-      (call_holds past call (due ++ rest) next h)
+  pub holds_kept : IsKept disk (Holds disk)
+  holds_kept = record {
+    call = call_holds;
+    choice = choice_holds;
+    test = λ past rows h. h;
+    delivery = λ past row h. h;
+    finish = λ past request h. h;
+  }
 
-  -- ---- choices
-
-  abbrev Cleans : Past → ℕ → Type 0
-  Cleans past task = Holds disk calls past × (is_clean (terms_of past task).kind ≡ true)
-
-  chosen_holds : (past : Past) (task : ℕ) (segment : LogSegment) (cuts : List Cut) → AllByRecursion HasSector cuts → Cleans past task
-      → Cleans (chose task segment (next_blocks past task cuts) ∷ past) task
-  chosen_holds past task segment cuts all now =
-      let h = now.0 in
-      let weight = (terms_of past task).weight in
-      let n = length (blocks_of past task) in (
-        record {
-          some = all_append IsSome (registered past) (next_blocks past task cuts) h.some (some_numbered task weight n cuts all);
-          unopened = λ other beyond. elim (cases_Bool (task == other)) [
-            | inl same ↦ absurd (true≢false (sym now.1 ∙ ap (λ task. is_clean (terms_of past task).kind) (eqb-true task other same)
-                ∙ ap is_clean (plain_beyond (tasks past) other beyond)))
-            | inr differ ↦ other_same task other weight n cuts (registered past) differ ∙ h.unopened other beyond
-          ];
-          backups = λ other backup. elim (cases_Bool (task == other)) [
-            | inl same ↦ absurd (no_backup (terms_of past task).kind now.1
-                (ap (λ task. is_backup (terms_of past task).kind) (eqb-true task other same) ∙ backup))
-            | inr differ ↦ subst (IsOneRange (length (places disk)) (has_want (calls_of past) other))
-                (sym (other_same task other weight n cuts (registered past) differ)) (h.backups other backup)
-          ];
-          left = h.left;
-        },
-        now.1,
-      )
-
-  best_holds : (past : Past) (task : ℕ) (left : List LogSegment) → Cleans past task → Cleans (choose_best disk task past left) task
-  best_holds past task [] now = now
-  best_holds past task (segment ∷ left) now =
-      let best = best_of is_better segment left in
-      let block = (terms_of past task).block in
-      chosen_holds past task best (live_cuts disk block best.first best.live) (some_live disk block best.first best.live) now
-
-  once_holds : (past : Past) (task : ℕ) → Cleans past task → Cleans (choose_once disk task past) task
-  once_holds past task now = elim (cases_Bool (is_busy (work past task))) [
-    | inl busy ↦ subst (λ b. Cleans (if b then past else choose_best disk task past (unchosen (work past task))) task) (sym busy) now
-    | inr idle ↦ subst (λ b. Cleans (if b then past else choose_best disk task past (unchosen (work past task))) task) (sym idle)
-        (best_holds past task (unchosen (work past task)) now)
-  ]
-
-  up_to_holds : (n : ℕ) (past : Past) (task : ℕ) → Cleans past task → Cleans (choose_up_to n disk task past) task
-  up_to_holds zero past task now = now
-  up_to_holds (suc n) past task now = up_to_holds n (choose_once disk task past) task (once_holds past task now)
-
-  in_holds : (past : Past) (task : ℕ) → Holds disk calls past → Holds disk calls (choose_in disk past task)
-  in_holds past task h =
-      let cleans = is_clean (terms_of past task).kind in
-      let many = choose_up_to (length (segments past task)) disk task past in
-      elim (cases_Bool (cleans && not (is_closed past task))) [
-        | inl chooses ↦ subst (λ b. Holds disk calls (if b then many else past)) (sym chooses)
-            (up_to_holds (length (segments past task)) past task (h, (and_parts cleans (not (is_closed past task)) chooses).0)).0
-        | inr other ↦ subst (λ b. Holds disk calls (if b then many else past)) (sym other) h
-      ]
-
-  choices_hold : (numbers : List ℕ) (past : Past) → Holds disk calls past → Holds disk calls (fold (choose_in disk) past numbers)
-  choices_hold [] past h = h
-  choices_hold (task ∷ numbers) past h = choices_hold numbers (choose_in disk past task) (in_holds past task h)
-
-  -- ---- deliveries
-
-  deliveries_hold : (deliveries : List Delivery) (past : Past) → Holds disk calls past
-      → Holds disk calls (fold with_delivery past deliveries)
-  deliveries_hold [] past h = h
-  deliveries_hold (delivery ∷ deliveries) past h = deliveries_hold deliveries (with_delivery past delivery) h
-
-  finish_holds : (decision : Decision) (past : Past) → Holds disk calls past → Holds disk calls (with_finish past decision)
-  finish_holds (serves served) past h = h
-  finish_holds (idles dwell) past h = h
-  finish_holds (ends now) past h = h
-
--- ---- decisions
+-- ---- so far
 
 abbrev pub HoldsOf : Inputs → Past → Type 0
-HoldsOf inputs past = Holds inputs.disk.map inputs.calls past
+HoldsOf inputs past = HoldsSoFar inputs (Holds inputs.disk.map) past
 
 pub at_first : (inputs : Inputs) → IsAccepted inputs → HoldsOf inputs []
-at_first inputs accepted = record {
-  some = tt;
-  unopened = λ task beyond. refl;
-  backups = λ task backup. record { few = omega arith; none = λ none. refl };
-  left = accepted.calls;
-}
-
-pub chosen_past_holds : (inputs : Inputs) → IsAccepted inputs → (past : Past) (decision : Decision) → HoldsOf inputs past
-    → HoldsOf inputs (chosen_past inputs past decision)
-unfolding chosen_past with_choices
-chosen_past_holds inputs accepted past decision h =
-    let now = instant_of decision in
-    let due = calls_due inputs.calls past now in
-    let rest = due_first inputs.calls past now accepted.instants in
-    let called = fold (take_call inputs.disk.map) past due in
-    choices_hold inputs.disk.map inputs.calls (task_numbers called) called
-    (calls_hold inputs.disk.map inputs.calls due rest.0 past rest.1 h)
-
-pub after_holds : (inputs : Inputs) (past : Past) (step : Step) → HoldsOf inputs (tested_past inputs past step)
-    → HoldsOf inputs (past_after inputs past step)
-unfolding past_after
-after_holds inputs past step h =
-    finish_holds inputs.disk.map inputs.calls (decision_in step) (fold with_delivery (tested_past inputs past step) step.deliveries)
-    (deliveries_hold inputs.disk.map inputs.calls step.deliveries (tested_past inputs past step) h)
+at_first inputs accepted = (
+  accepted.calls,
+  record {
+    some = tt;
+    unopened = λ task beyond. refl;
+    backups = λ task backup. record { few = omega arith; none = λ none. refl };
+  },
+)

@@ -24,15 +24,17 @@ use Rattle.fb_model.specs.Steps.{step_rows, task_row, task_rows, history}
 use Rattle.fb_model.specs.SoundRun.{AreFollowed, IsTested}
 use Rattle.fb_model.specs.FullRun.{IsAllDelivered}
 use Rattle.fb_model.proofs.Due.{HasBytes, IsDueRow, due_block, due_bytes, due_true}
+use Rattle.fb_model.proofs.Cuts.{HasSector}
+use Rattle.fb_model.proofs.Histories.{chosen_holds, after_holds}
 use Rattle.fb_report.specs.Printed.{HasSectors, CountsSectors}
 use Rattle.fb_check.specs.Printing.{RunsCanBePrinted}
-use Rattle.fb_check.proofs.PrintingSectors.{IsSome, runs_have, contents_have, some_have, blocks_have}
-use Rattle.fb_check.proofs.PrintingHistories.{HoldsOf, at_first, chosen_past_holds, after_holds}
+use Rattle.fb_check.proofs.PrintingSectors.{runs_have, contents_have, some_have, blocks_have}
+use Rattle.fb_check.proofs.PrintingHistories.{Holds, HoldsOf, at_first, holds_kept}
 use Rattle.fb_check.proofs.PrintingReads.{reads_have}
 
 -- ---- deliveries
 
-bytes_some : (medium : Medium) (got : DeliveryRow) → HasBytes (contents_at medium) got → IsSome got.block → HasSectors got.content
+bytes_some : (medium : Medium) (got : DeliveryRow) → HasBytes (contents_at medium) got → HasSector got.block → HasSectors got.content
 bytes_some medium got bytes some =
     subst HasSectors (sym bytes.content) (omega (
       arith,
@@ -47,9 +49,9 @@ module _ (inputs : Inputs) where
   abbrev medium : Medium
   medium = medium_of inputs
 
-  wanted_some : (past : Past) → HoldsOf inputs past → AllByRecursion IsSome (wanted past)
+  wanted_some : (past : Past) → HoldsOf inputs past → AllByRecursion HasSector (wanted past)
   unfolding wanted
-  wanted_some past h = all_filter IsSome (λ block. is_wanted (state past block)) (registered past) h.some
+  wanted_some past h = all_filter HasSector (λ block. is_wanted (state past block)) (registered past) h.1.some
 
   gots_some : (past : Past) (step : Step) → HoldsOf inputs (chosen_past inputs past (decision_in step))
       → IsAllDelivered inputs medium past step
@@ -57,11 +59,11 @@ module _ (inputs : Inputs) where
   gots_some past step h all =
       let chosen = chosen_past inputs past (decision_in step) in
       subst (AllByRecursion (λ (got : DeliveryRow). HasSectors got.content)) (sym all)
-      (all_weaker (IsDueRow medium.disk (contents_at medium) step.act IsSome) (λ got. HasSectors got.content)
-      (λ got is_due. bytes_some medium got (due_bytes medium.disk (contents_at medium) step.act IsSome got is_due)
-      (due_block medium.disk (contents_at medium) step.act IsSome got is_due))
+      (all_weaker (IsDueRow medium.disk (contents_at medium) step.act HasSector) (λ got. HasSectors got.content)
+      (λ got is_due. bytes_some medium got (due_bytes medium.disk (contents_at medium) step.act HasSector got is_due)
+      (due_block medium.disk (contents_at medium) step.act HasSector got is_due))
       (due medium.disk (contents_at medium) step.act (wanted chosen))
-      (due_true medium.disk (contents_at medium) step.act IsSome (wanted chosen) (wanted_some chosen h)))
+      (due_true medium.disk (contents_at medium) step.act HasSector (wanted chosen) (wanted_some chosen h)))
 
   module _ (past : Past) (now : ℕ) (h : HoldsOf inputs past) where
     seals_count : (task : ℕ) → AllByRecursion CountsSectors (seal_rows (image medium past task now) past now task)
@@ -72,7 +74,7 @@ module _ (inputs : Inputs) where
           let blocks = filter is_delivered (blocks_of past task) in
           let backup = and_parts (is_backup (terms_of past task).kind) (not (is_sealed past task)) (and_parts (is_open_backup past task)
           (is_complete past task) sealed).0 in
-          let few = (h.backups task backup.0).few in
+          let few = (h.1.backups task backup.0).few in
           rw sealed (
             omega (
               arith,
@@ -147,10 +149,12 @@ module _ (inputs : Inputs) where
         → AllByRecursion CountsSectors (flat_map (step_rows inputs.disk) list)
     steps_count past [] h tests all = tt
     steps_count past (step ∷ list) h tests all =
-        let chosen = chosen_past_holds inputs accepted past (decision_in step) h in
+        let disk = inputs.disk.map in
+        let chosen = chosen_holds inputs accepted.instants (Holds disk) (holds_kept disk) past (decision_in step) h in
         all_append CountsSectors (step_rows inputs.disk step) (flat_map (step_rows inputs.disk) list)
         (step_counts past step chosen tests.0 all.0)
-        (steps_count (past_after inputs past step) list (after_holds inputs past step chosen) tests.1 all.1)
+        (steps_count (past_after inputs past step) list
+        (after_holds inputs accepted.instants (Holds disk) (holds_kept disk) past step chosen) tests.1 all.1)
 
 tasks_count : (past : Past) → AllByRecursion CountsSectors (task_rows past)
 unfolding task_rows

@@ -1,17 +1,15 @@
 -- How many sectors runs, cuts and blocks have.
-use Rattle.std.proofs.Common.{◌≡◌, ℕ, zero, suc, ◌+◌, ◌<◌, ◌≤◌, ◌==◌, List, [], ◌∷◌, true, false, inl, inr, length, length-append, filter}
+use Rattle.std.proofs.Common.{◌≡◌, ℕ, zero, suc, ◌+◌, ◌≤◌, ◌==◌, List, [], ◌∷◌, false, inl, inr, length, length-append, filter}
 use Rattle.std.proofs.Common.{refl, arith}
 use Rattle.std.specs.Prelude.{Bool, ◌&&◌, not}
-use Rattle.std.specs.List.{AllByRecursion, flat_map, sum_by}
+use Rattle.std.specs.List.{flat_map, sum_by}
 use Rattle.std.proofs.lemmas.Bool.{cases_Bool}
 use Rattle.std.proofs.lemmas.List.Sums.{sum_by-cons}
 use Rattle.std.proofs.lemmas.List.Filters.{sum_by-filter_both}
 use Rattle.std.proofs.lemmas.List.FromFn.{length-map-range_with_len}
-use Rattle.fb_units.proofs.Lists.{all_append}
 use Rattle.fb_geometry.specs.Shape.{Shape}
 use Rattle.fb_sectormap.specs.declared.cut.Cut.{Cut}
 use Rattle.fb_sectormap.specs.Cutting.{cut_of, cutting, with_sector, is_cut_before}
-use Rattle.fb_script.specs.Blocks.{live_cuts}
 use Rattle.fb_store.specs.declared.content.Content.{Content}
 use Rattle.fb_store.specs.declared.content.ContentRun.{ContentRun}
 use Rattle.fb_store.specs.Runs.{runs_of, with_content, same_content}
@@ -45,30 +43,8 @@ contents_have medium lbn n t = length-map-range_with_len (λ sector. (sector, co
 
 -- ---- cuts
 
-abbrev pub HasSector : Cut → Type 0
-HasSector cut = 0 < cut.count
-
 abbrev cut_sectors : List Cut → ℕ
 cut_sectors cuts = sum_by (λ cut. cut.count) cuts
-
-some_with : (disk : Shape) (block lbn : ℕ) (cuts : List Cut) → AllByRecursion HasSector cuts
-    → AllByRecursion HasSector (with_sector disk block lbn cuts)
-some_with disk block lbn [] all = (omega arith, tt)
-some_with disk block lbn (cut ∷ cuts) all = elim (cases_Bool (is_cut_before disk block (lbn + 1))) [
-  | inl alone ↦ rw alone (omega arith, all)
-  | inr joined ↦ rw joined (omega arith, all.1)
-]
-
-pub some_cut : (disk : Shape) (block lbn n : ℕ) → AllByRecursion HasSector (cutting disk block lbn n)
-unfolding cutting
-some_cut disk block lbn zero = tt
-some_cut disk block lbn (suc n) = some_with disk block lbn (cutting disk block (lbn + 1) n) (some_cut disk block (lbn + 1) n)
-
-pub some_live : (disk : Shape) (block lbn : ℕ) (lives : List Bool) → AllByRecursion HasSector (live_cuts disk block lbn lives)
-some_live disk block lbn [] = tt
-some_live disk block lbn (true ∷ lives) = all_append HasSector (cutting disk block lbn block) (live_cuts disk block (lbn + block) lives)
-    (some_cut disk block lbn block) (some_live disk block (lbn + block) lives)
-some_live disk block lbn (false ∷ lives) = some_live disk block (lbn + block) lives
 
 with_one : (disk : Shape) (block lbn : ℕ) (cuts : List Cut) → cut_sectors (with_sector disk block lbn cuts) ≡ cut_sectors cuts + 1
 with_one disk block lbn [] = refl
@@ -88,20 +64,12 @@ cuts_have disk block lbn (suc n) = omega (arith, with_one disk block lbn (cuttin
 
 -- ---- blocks
 
-abbrev pub IsSome : Block → Type 0
-IsSome block = 0 < block.count
-
 abbrev pub sectors : List Block → ℕ
 sectors blocks = sum_by (λ block. block.count) blocks
 
 -- the blocks of one task
 abbrev pub own : ℕ → List Block → List Block
 own task blocks = filter (λ block. block.task == task) blocks
-
-pub some_numbered : (task weight n : ℕ) (cuts : List Cut) → AllByRecursion HasSector cuts
-    → AllByRecursion IsSome (numbered task weight n cuts)
-some_numbered task weight n [] all = tt
-some_numbered task weight n (cut ∷ cuts) all = (all.0, some_numbered task weight (n + 1) cuts all.1)
 
 pub numbered_have : (task weight n : ℕ) (cuts : List Cut) → sectors (numbered task weight n cuts) ≡ cut_sectors cuts
 numbered_have task weight n [] = refl
