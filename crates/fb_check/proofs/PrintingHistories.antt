@@ -28,9 +28,9 @@ use Rattle.fb_model.specs.History.{Past, calls_of, opened_by, tasks, terms_of, r
 use Rattle.fb_model.specs.Completion.{view}
 use Rattle.fb_model.specs.Segments.{numbered, next_blocks, is_better}
 use Rattle.fb_model.specs.Steps.{blocks_by, take_call}
-use Rattle.fb_model.proofs.Cuts.{HasSector, cut_sectors, live_sectors, numbered_sectors}
-use Rattle.fb_model.proofs.Events.{IsKeptBy}
-use Rattle.fb_model.proofs.Histories.{IsKept, HoldsSoFar}
+use Rattle.fb_model.proofs.Cuts.{HasSector, cuts_have_sectors, live_have_sectors, blocks_have_sectors}
+use Rattle.fb_model.proofs.Events.{ChoiceKeeps}
+use Rattle.fb_model.proofs.Histories.{EventsKeep, HoldsSoFar}
 use Rattle.fb_model.proofs.Views.{index_other}
 use Rattle.fb_tasks.proofs.Rules.{open_there, terms_there}
 use Rattle.fb_check.proofs.PrintingSectors.{sectors, own, numbered_have, none_other}
@@ -84,8 +84,8 @@ module _ (disk : Shape) where
     some_now (Want first count) =
         let block = (terms_of past call.task).block in
         all_append HasSector (registered past) (blocks_by disk past call.task (Want first count)) h.some
-        (numbered_sectors call.task (terms_of past call.task).weight (length (blocks_of past call.task)) (cutting disk block first count)
-        (cut_sectors disk block first count))
+        (blocks_have_sectors call.task (terms_of past call.task).weight (length (blocks_of past call.task)) (cutting disk block first count)
+        (cuts_have_sectors disk block first count))
     some_now _ = all_append HasSector (registered past) [] h.some tt
 
     unopened_now : (action : Action) → MayAsk disk (calls_of past) call.task action → (task : ℕ)
@@ -175,7 +175,7 @@ module _ (disk : Shape) where
 
   -- ---- a choice
 
-  choice_holds : (past : Past) (task : ℕ) → is_clean (terms_of past task).kind ≡ true → IsKeptBy disk (Holds disk) task past
+  choice_holds : (past : Past) (task : ℕ) → is_clean (terms_of past task).kind ≡ true → ChoiceKeeps disk (Holds disk) task past
   choice_holds past task cleans segment left are h =
       let best = best_of is_better segment left in
       let terms = terms_of past task in
@@ -183,7 +183,7 @@ module _ (disk : Shape) where
       let cuts = live_cuts disk terms.block best.first best.live in
       record {
         some = all_append HasSector (registered past) (next_blocks past task cuts) h.some
-            (numbered_sectors task terms.weight n cuts (live_sectors disk terms.block best.first best.live));
+            (blocks_have_sectors task terms.weight n cuts (live_have_sectors disk terms.block best.first best.live));
         unopened = λ other beyond. elim (cases_Bool (task == other)) [
           | inl same ↦ absurd (true≢false (sym cleans ∙ ap (λ task. is_clean (terms_of past task).kind) (eqb-true task other same)
               ∙ ap is_clean (plain_beyond (tasks past) other beyond)))
@@ -197,7 +197,7 @@ module _ (disk : Shape) where
         ];
       }
 
-  pub holds_kept : IsKept disk (Holds disk)
+  pub holds_kept : EventsKeep disk (Holds disk)
   holds_kept = record {
     call = call_holds;
     choice = choice_holds;

@@ -1,14 +1,11 @@
 -- The tasks of a run's background rows are the script's.
-use Rattle.std.proofs.Common.{◌≡◌, ℕ, ◌<◌, ◌≤◌, List, [], ◌∷◌, ◌++◌, length, map, take, drop, ap, sym, subst, ◌∙◌, arith, inl, inr}
-use Rattle.std.specs.Prelude.{Bool, true, false, ◌&&◌, not, filter, if◌then◌else◌}
-use Rattle.std.specs.List.{AllByRecursion, flat_map, fold}
+use Rattle.std.proofs.Common.{◌≡◌, ℕ, ◌<◌, ◌≤◌, List, ◌∷◌, length, map, take, drop, ap, sym, subst, ◌∙◌, arith}
+use Rattle.std.specs.List.{AllByRecursion}
 use Rattle.std.proofs.lemmas.List.{length-append, take-append-drop}
 use Rattle.std.proofs.lemmas.List.Concat.{flat_map-append}
-use Rattle.std.proofs.lemmas.Bool.{cases_Bool}
-use Rattle.fb_units.proofs.Lists.{all_append, all_filter, all_left, all_range, all_weaker}
-use Rattle.fb_units.proofs.Each.{all_any, all_map, flat_all}
+use Rattle.fb_units.proofs.Lists.{all_filter, all_left, all_weaker}
+use Rattle.fb_units.proofs.Each.{all_any}
 use Rattle.fb_geometry.specs.Shape.{Shape}
-use Rattle.fb_service.specs.declared.disk.Disk.{Disk}
 use Rattle.fb_script.specs.declared.call.Call.{Call}
 use Rattle.fb_script.specs.Allowed as allowed
 use Rattle.fb_wanted.specs.declared.block.Block.{Block}
@@ -19,22 +16,18 @@ use Rattle.fb_model.specs.Inputs.{Inputs}
 use Rattle.fb_model.specs.Content.{Medium, medium_of, contents_at}
 use Rattle.fb_model.specs.Deliveries.{due}
 use Rattle.fb_model.proofs.Due.{IsDueRow, due_block, due_true}
-use Rattle.fb_model.specs.Decisions.{Decision, serves, idles, ends, instant_of, Act, serving, idling, ending}
-use Rattle.fb_model.specs.History.{Event, delivered, tested, Past, tasks, task_numbers, terms_of, registered, registered_by, wanted, state}
-use Rattle.fb_model.specs.History.{is_open_backup}
-use Rattle.fb_model.specs.Completion.{choices, work, is_complete, was_complete}
-use Rattle.fb_model.specs.Images.{findings, is_scrub, bad_sectors, segment_rows, seal_rows, complete_rows, is_newly_cleaned, image, packed}
-use Rattle.fb_model.specs.Images.{test_rows}
-use Rattle.fb_model.specs.Steps.{Delivery, Step, decision_in, with_delivery, with_finish, chosen_past, past_after, delivery_rows}
-use Rattle.fb_model.specs.Steps.{opening, step_rows, task_row, task_rows}
-use Rattle.fb_model.specs.SoundRun.{AreFollowed}
+use Rattle.fb_model.specs.Decisions.{instant_of, Act}
+use Rattle.fb_model.specs.History.{Event, delivered, finished, tested, Past, tasks, registered, registered_by, wanted, state}
+use Rattle.fb_model.specs.Steps.{Delivery, Step, decision_in, chosen_past, past_after}
+use Rattle.fb_model.specs.Steps.{step_rows, task_rows}
 use Rattle.fb_tasks.specs.declared.session.Session.{Session}
 use Rattle.fb_tasks.specs.Telling.{Tells, IsBlockOf, calls_of}
+use Rattle.fb_model.proofs.EachRow.{RowsHave, AnyEnds, any_linked, step_has, tasks_have}
+use Rattle.fb_model.proofs.Events.{by_step}
 use Rattle.fb_model.proofs.Histories.{opened_same}
 use Rattle.fb_decide.proofs.RegisteredBlocks.{registered_after, tasks_more}
 use Rattle.fb_rows.specs.Tasks.{HasTaskBelow}
 use Rattle.fb_decide.specs.Making.{IsMade}
-use Rattle.fb_rows.specs.declared.back.BackRow.{BackRow}
 
 -- ---- rows and histories
 
@@ -55,59 +48,27 @@ module _ (n : ℕ) where
     few = (let few = fits.few in omega (arith, few, tasks_more past event));
   }
 
-  fits_deliveries : (past : Past) (deliveries : List Delivery) → PastFits n (fold with_delivery past deliveries) → PastFits n past
-  fits_deliveries past [] fits = fits
-  fits_deliveries past (delivery ∷ deliveries) fits =
-      fits_before past _ (fits_before (delivered delivery.got ∷ past) _ (fits_deliveries (with_delivery past delivery) deliveries fits))
+  fits_chosen : (inputs : Inputs) (past : Past) (step : Step) → PastFits n (past_after inputs past step)
+      → PastFits n (chosen_past inputs past (decision_in step))
+  fits_chosen inputs past step =
+      let chosen = chosen_past inputs past (decision_in step) in
+      by_step (λ past. PastFits n past → PastFits n chosen) (λ row. Unit {0})
+      (λ past rows before fits. before (fits_before past (tested rows) fits))
+      (λ past row any before fits. before (fits_before past (delivered row) fits))
+      (λ past request before fits. before (fits_before past (finished request) fits)) inputs past step
+      (all_any (λ (d : Delivery). Unit {0}) (λ d. tt) step.deliveries) (λ fits. fits)
 
-  fits_finish : (past : Past) (decision : Decision) → PastFits n (with_finish past decision) → PastFits n past
-  fits_finish past (serves served) fits = fits_before past _ fits
-  fits_finish past (idles dwell) fits = fits
-  fits_finish past (ends now) fits = fits
+  -- ---- rows
 
-  fits_tested : (inputs : Inputs) (past : Past) (step : Step) → PastFits n (past_after inputs past step)
-      → PastFits n (tested step.test ∷ chosen_past inputs past (decision_in step))
-  unfolding past_after
-  fits_tested inputs past step fits = fits_deliveries (tested step.test
-      ∷ chosen_past inputs past (decision_in step)) step.deliveries (fits_finish _ (decision_in step) fits)
-
-  -- ---- the rows of tests
-
-  in_range : (past : Past) → PastFits n past → AllByRecursion (λ task. task < n) (task_numbers past)
-  in_range past fits =
-      all_range (λ task. task < n) 0 (length (tasks past)) (λ k from below. let few = fits.few in omega (arith, below, few))
-
-  one_fits : (b : Bool) (row : BackRow) → HasTaskBelow n row → AllByRecursion (HasTaskBelow n) (if b then row ∷ [] else [])
-  one_fits true row fits = (fits, tt)
-  one_fits false row fits = tt
-
-  module _ (medium : Medium) (past : Past) (now : ℕ) (fits : PastFits n past) where
-    segments_fit : (task : ℕ) → task < n → AllByRecursion (HasTaskBelow n) (segment_rows (packed medium past) past now task)
-    segments_fit task below = all_map (HasTaskBelow n) _ (filter (is_newly_cleaned (work past task)) (choices past task))
-        (all_any _ (λ choice. below) (filter (is_newly_cleaned (work past task)) (choices past task)))
-
-    seals_fit : (task : ℕ) → task < n → AllByRecursion (HasTaskBelow n) (seal_rows (image medium past task now) past now task)
-    seals_fit task below = one_fits (is_open_backup past task && is_complete past task) _ below
-
-    completes_fit : (task : ℕ) → task < n → AllByRecursion (HasTaskBelow n) (complete_rows past now task)
-    completes_fit task below = one_fits (is_complete past task && not (was_complete past task)) _ below
-
-    tests_fit : AllByRecursion (HasTaskBelow n) (test_rows medium past now)
-    unfolding test_rows
-    tests_fit = all_append (HasTaskBelow n) (flat_map (segment_rows (packed medium past) past now) (task_numbers past))
-        (flat_map (λ task. seal_rows (image medium past task now) past now task ++ complete_rows past now task) (task_numbers past))
-        (flat_all (HasTaskBelow n) (segment_rows (packed medium past) past now) (task_numbers past)
-        (all_weaker (λ task. task < n)
-        (λ task. AllByRecursion (HasTaskBelow n) (segment_rows (packed medium past) past now task)) segments_fit
-        (task_numbers past) (in_range past fits)))
-        (flat_all (HasTaskBelow n) (λ task. seal_rows (image medium past task now) past now task ++ complete_rows past now task)
-        (task_numbers past)
-        (all_weaker (λ task. task < n)
-        (λ task. AllByRecursion (HasTaskBelow n) (seal_rows (image medium past task now) past now task ++ complete_rows past now task))
-        (λ task below. all_append (HasTaskBelow n) (seal_rows (image medium past task now) past now task) (complete_rows past now task)
-        (seals_fit task below) (completes_fit task below)) (task_numbers past) (in_range past fits)))
-
-  -- ---- deliveries and what follows them
+  fits_kept : (medium : Medium) → RowsHave medium (HasTaskBelow n) (λ now past. PastFits n past) AnyEnds
+  fits_kept medium = record {
+    segments = λ now past task choice fits opened. let few = fits.few in omega (arith, opened, few);
+    seals = λ now past task fits opened is_open done. let few = fits.few in omega (arith, opened, few);
+    completes = λ now past task fits opened. let few = fits.few in omega (arith, opened, few);
+    finds = λ row lbn got. got;
+    delivers = λ now past row fits got linked. record { blocks = fits.blocks; few = fits.few };
+    tests = λ now past rows fits. record { blocks = fits.blocks; few = fits.few };
+  }
 
   -- a delivery likewise
   abbrev pub GotFits : DeliveryRow → Type 0
@@ -119,36 +80,6 @@ module _ (n : ℕ) where
       (due_block medium.disk (contents_at medium) act (BlockFits n)) (due medium.disk (contents_at medium) act blocks)
       (due_true medium.disk (contents_at medium) act (BlockFits n) blocks all)
 
-  findings_fit : (past : Past) (got : DeliveryRow) → GotFits got → AllByRecursion (HasTaskBelow n) (findings past got)
-  findings_fit past got fits = elim (cases_Bool (is_scrub (terms_of past got.block.task).kind)) [
-    | inl scrubs ↦ rw scrubs (all_map (HasTaskBelow n) _ (bad_sectors got.content)
-        (all_any _ (λ lbn. fits) (bad_sectors got.content)))
-    | inr other ↦ rw other tt
-  ]
-
-  followed_fit : (medium : Medium) (past : Past) (deliveries : List Delivery) → PastFits n past
-      → AllByRecursion GotFits (map (λ delivery. delivery.got) deliveries) → AreFollowed medium past deliveries
-      → AllByRecursion (HasTaskBelow n) (delivery_rows deliveries)
-  followed_fit medium past [] fits gots follows = tt
-  followed_fit medium past (delivery ∷ deliveries) fits gots follows =
-      let got = gots.0 in
-      let now : PastFits n (delivered delivery.got ∷ past) = record { blocks = fits.blocks; few = fits.few } in (
-        got,
-        all_append (HasTaskBelow n) delivery.after (delivery_rows deliveries)
-            (subst (AllByRecursion (HasTaskBelow n)) (sym follows.0)
-            (all_append (HasTaskBelow n) (findings past delivery.got) (test_rows medium (delivered delivery.got ∷ past) delivery.got.end)
-            (findings_fit past delivery.got got) (tests_fit medium (delivered delivery.got ∷ past) delivery.got.end now)))
-            (followed_fit medium (with_delivery past delivery) deliveries
-            (record { blocks = fits.blocks; few = fits.few }) gots.1 follows.1),
-      )
-
-  -- ---- the rows of steps
-
-  opening_fits : (disk : Disk) (act : Act) → AllByRecursion (HasTaskBelow n) (opening disk act)
-  opening_fits disk (serving served plan) = (tt, tt)
-  opening_fits disk (idling dwell) = (tt, tt)
-  opening_fits disk (ending now) = tt
-
   wanted_fit : (past : Past) → PastFits n past → AllByRecursion (BlockFits n) (wanted past)
   unfolding wanted
   wanted_fit past fits = all_filter (BlockFits n) (λ block. is_wanted (state past block)) (registered past) fits.blocks
@@ -157,22 +88,15 @@ module _ (n : ℕ) where
       → AllByRecursion (HasTaskBelow n) (step_rows inputs.disk step)
   step_fits inputs past step made fits =
       let medium = medium_of inputs in
-      let tests = fits_tested inputs past step fits in
-      let test = fits_before (chosen_past inputs past (decision_in step)) (tested step.test) tests in
-      all_append (HasTaskBelow n) (step.test ++ opening inputs.disk step.act)
-      (delivery_rows step.deliveries)
-      (all_append (HasTaskBelow n) step.test (opening inputs.disk step.act)
-      (subst (AllByRecursion (HasTaskBelow n)) (sym made.tested.test) (tests_fit medium (chosen_past inputs past (decision_in step))
-      (instant_of (decision_in step)) test)) (opening_fits inputs.disk step.act))
-      (followed_fit medium (tested step.test ∷ chosen_past inputs past (decision_in step)) step.deliveries tests
-      (subst (AllByRecursion GotFits) (sym made.all) (due_fits medium step.act (wanted (chosen_past inputs past (decision_in step)))
-      (wanted_fit (chosen_past inputs past (decision_in step)) test))) made.tested.followed)
+      let chosen = chosen_past inputs past (decision_in step) in
+      let chosen_fits = fits_chosen inputs past step fits in
+      step_has medium (HasTaskBelow n) (λ now past. PastFits n past) AnyEnds (fits_kept medium) inputs past step chosen_fits made.tested
+      (λ row. tt) (λ dwell. tt)
+      (subst (AllByRecursion GotFits) (sym made.all) (due_fits medium step.act (wanted chosen) (wanted_fit chosen chosen_fits)))
+      (any_linked (instant_of (decision_in step)) (map (λ delivery. delivery.got) step.deliveries))
 
   pub tasks_fit : (past : Past) → PastFits n past → AllByRecursion (HasTaskBelow n) (task_rows past)
-  unfolding task_rows
-  tasks_fit past fits = all_map (HasTaskBelow n) (task_row past) (task_numbers past)
-      (all_weaker (λ task. task < n) (λ task. HasTaskBelow n (task_row past task)) (λ task below. below)
-      (task_numbers past) (in_range past fits))
+  tasks_fit past fits = tasks_have (HasTaskBelow n) past (λ task opened. let few = fits.few in omega (arith, opened, few))
 
 -- ---- of a history that is told
 

@@ -32,8 +32,8 @@ use Rattle.fb_model.specs.Completion.{segment_by, segments, work}
 use Rattle.fb_model.specs.Segments.{is_better, is_chosen, next_blocks}
 use Rattle.fb_model.specs.Steps.{Step, decision_in, blocks_by, past_after, chosen_past, take_call}
 use Rattle.fb_model.proofs.Cuts.{all_numbered}
-use Rattle.fb_model.proofs.Events.{IsKeptBy}
-use Rattle.fb_model.proofs.Histories.{opened_more, opened_same, IsKept, HoldsSoFar, chosen_holds, after_holds}
+use Rattle.fb_model.proofs.Events.{ChoiceKeeps}
+use Rattle.fb_model.proofs.Histories.{opened_more, opened_same, EventsKeep, HoldsSoFar, chosen_holds, after_holds}
 use Rattle.fb_model.proofs.Views.{index_other}
 use Rattle.fb_mirror.proofs.CutCover.{EndsBy, cuts_end}
 
@@ -142,7 +142,7 @@ module _ (disk : Shape) (past : Past) (call : Call) (laid : IsLaid disk past) wh
 
 -- ---- a choice
 
-laid_choice : (disk : Shape) (past : Past) (task : ℕ) → is_clean (terms_of past task).kind ≡ true → IsKeptBy disk (IsLaid disk) task past
+laid_choice : (disk : Shape) (past : Past) (task : ℕ) → is_clean (terms_of past task).kind ≡ true → ChoiceKeeps disk (IsLaid disk) task past
 laid_choice disk past task cleans segment left are laid =
     let block = (terms_of past task).block in
     let lie = subst (AllByRecursion (SegmentLies disk block)) are (all_filter (SegmentLies disk block)
@@ -157,7 +157,7 @@ laid_choice disk past task cleans segment left are laid =
       unopened = laid.unopened;
     }
 
-laid_kept : (disk : Shape) → IsKept disk (IsLaid disk)
+laid_kept : (disk : Shape) → EventsKeep disk (IsLaid disk)
 laid_kept disk = record {
   call = λ past call may laid. laid_called disk past call laid may;
   choice = laid_choice disk;
@@ -179,10 +179,10 @@ laid_first inputs accepted =
 module _ (inputs : Inputs) (rising : IsRising (map (λ (call : Call). call.instant) inputs.calls)) where
   pub laid_chosen : (past : Past) (decision : Decision) → AreLaid inputs past → AreLaid inputs (chosen_past inputs past decision)
   laid_chosen past decision laid =
-      chosen_holds inputs rising (IsLaid inputs.disk.map) (laid_kept inputs.disk.map) past decision laid
+      chosen_holds inputs (IsLaid inputs.disk.map) (laid_kept inputs.disk.map) rising past decision laid
 
   pub laid_after : (past : Past) (step : Step) → AreLaid inputs past → AreLaid inputs (past_after inputs past step)
-  laid_after past step laid = after_holds inputs rising (IsLaid inputs.disk.map) (laid_kept inputs.disk.map) past step
+  laid_after past step laid = after_holds inputs (IsLaid inputs.disk.map) (laid_kept inputs.disk.map) past step
       (laid_chosen past (decision_in step) laid)
 
   -- the wanted blocks lie on the disk

@@ -10,7 +10,7 @@ use Rattle.fb_store.specs.declared.content.Content.TheVariants.{Filled}
 use Rattle.fb_store.specs.declared.content.ContentRun.{ContentRun}
 use Rattle.fb_store.proofs.Longest.{ends-runs_of-held}
 use Rattle.fb_rows.specs.declared.back.BackRow.{BackRow}
-use Rattle.fb_rows.specs.declared.back.BackRow.TheVariants.{Gap, Idle, Got, Bad, Seal, Segment, Complete, Task}
+use Rattle.fb_rows.specs.declared.back.BackRow.TheVariants.{Got}
 use Rattle.fb_rows.specs.declared.back.DeliveryRow.{DeliveryRow}
 use Rattle.fb_rows.specs.declared.run.Run.{Run}
 use Rattle.fb_script.specs.declared.call.Call.{Call}
@@ -67,13 +67,7 @@ deliveries_within : (end : ℕ) (rows : List BackRow) → RowsFit (EndsOn end) N
     → AllByRecursion (IsWithin end) (flat_map deliveries_in rows)
 deliveries_within end [] fit = tt
 deliveries_within end (Got row ∷ rows) fit = (fit.0, deliveries_within end rows fit.1)
-deliveries_within end (Gap row ∷ rows) fit = deliveries_within end rows fit.1
-deliveries_within end (Idle row ∷ rows) fit = deliveries_within end rows fit.1
-deliveries_within end (Bad row ∷ rows) fit = deliveries_within end rows fit.1
-deliveries_within end (Seal row ∷ rows) fit = deliveries_within end rows fit.1
-deliveries_within end (Segment row ∷ rows) fit = deliveries_within end rows fit.1
-deliveries_within end (Complete row ∷ rows) fit = deliveries_within end rows fit.1
-deliveries_within end (Task row ∷ rows) fit = deliveries_within end rows fit.1
+deliveries_within end (_ ∷ rows) fit = deliveries_within end rows fit.1
 
 steps_within : (inputs : Inputs) (medium : Medium) → IsRising (map (λ (call : Call). call.instant) inputs.calls)
     → (past : Past) (steps : List Step) → AreLaid inputs past

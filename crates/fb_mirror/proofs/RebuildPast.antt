@@ -32,7 +32,7 @@ use Rattle.fb_model.specs.Completion.{is_complete, is_complete_as, is_closed, is
 use Rattle.fb_model.specs.Segments.{choose_in, choose_up_to, numbered, with_choices}
 use Rattle.fb_model.specs.Steps.{Delivery, Step, decision_in, calls_due, past_after, chosen_past, take_call}
 use Rattle.fb_mirror.specs.Script.{rebuild_calls}
-use Rattle.fb_model.proofs.Cuts.{cut_sectors, numbered_sectors}
+use Rattle.fb_model.proofs.Cuts.{cuts_have_sectors, blocks_have_sectors}
 use Rattle.fb_model.proofs.Events.{by_step}
 
 -- the blocks of the whole disk
@@ -74,11 +74,8 @@ rebuilding_more P disk past event is quiet =
     record { events = event ∷ is.events; is = ap (λ events. event ∷ events) is.is; quiet = (quiet, is.quiet) }
 
 quiet_weaker : (P Q : DeliveryRow → Type 0) → ((row : DeliveryRow) → P row → Q row) → (event : Event) → IsQuiet P event → IsQuiet Q event
-quiet_weaker P Q more (called call blocks) quiet = absurd quiet
-quiet_weaker P Q more (chose task segment blocks) quiet = absurd quiet
-quiet_weaker P Q more (tested rows) quiet = tt
 quiet_weaker P Q more (delivered row) quiet = more row quiet
-quiet_weaker P Q more (finished request) quiet = tt
+quiet_weaker P Q more _ quiet = quiet
 
 pub rebuilding_weaker : (P Q : DeliveryRow → Type 0) (disk : Shape) (past : Past) → ((row : DeliveryRow) → P row → Q row)
     → IsRebuilding P disk past → IsRebuilding Q disk past
@@ -95,9 +92,7 @@ module _ (P : DeliveryRow → Type 0) (disk : Shape) where
   kept_then [] quiet = (refl, refl, refl)
   kept_then (called call blocks ∷ events) quiet = absurd quiet.0
   kept_then (chose task segment blocks ∷ events) quiet = absurd quiet.0
-  kept_then (tested rows ∷ events) quiet = kept_then events quiet.1
-  kept_then (delivered row ∷ events) quiet = kept_then events quiet.1
-  kept_then (finished request ∷ events) quiet = kept_then events quiet.1
+  kept_then (_ ∷ events) quiet = kept_then events quiet.1
 
   module _ (past : Past) (is : IsRebuilding P disk past) where
     task_is : tasks past ≡ backup_terms ∷ []
@@ -170,7 +165,7 @@ disk_ones disk = all_from_index (Among (disk_blocks disk)) (disk_blocks disk) (�
 
 -- each has a sector
 pub disk_some : (disk : Shape) → AllByRecursion (λ (block : Block). 0 < block.count) (disk_blocks disk)
-disk_some disk = numbered_sectors 0 1 0 (cutting disk 16 0 (length (places disk))) (cut_sectors disk 16 0 (length (places disk)))
+disk_some disk = blocks_have_sectors 0 1 0 (cutting disk 16 0 (length (places disk))) (cuts_have_sectors disk 16 0 (length (places disk)))
 
 -- what the blocks of the disk have, the wanted ones have
 pub wanted_have : (P : DeliveryRow → Type 0) (disk : Shape) (past : Past) (Q : Block → Type 0) → IsRebuilding P disk past

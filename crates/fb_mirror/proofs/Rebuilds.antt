@@ -26,7 +26,7 @@ use Rattle.fb_store.proofs.Runs.{sectors_of-runs_of}
 use Rattle.fb_store.proofs.Taken.{taken_block}
 use Rattle.fb_wanted.specs.declared.block.Block.{Block}
 use Rattle.fb_rows.specs.declared.back.BackRow.{BackRow}
-use Rattle.fb_rows.specs.declared.back.BackRow.TheVariants.{Gap, Idle, Got, Bad, Seal, Segment, Complete, Task}
+use Rattle.fb_rows.specs.declared.back.BackRow.TheVariants.{Got, Seal}
 use Rattle.fb_rows.specs.declared.back.DeliveryRow.{DeliveryRow}
 use Rattle.fb_rows.specs.declared.run.Run.{Run}
 use Rattle.fb_model.specs.Inputs.{Inputs, served}
@@ -110,26 +110,14 @@ all_cover keep (Got row ∷ rows) fit = (
       still_covered lbn (event_of row) (kept_in keep rows) (keep (event_of row)) (covers is_kept lbn within))
       rows (all_cover keep rows fit.1),
 )
-all_cover keep (Gap row ∷ rows) fit = (tt, all_cover keep rows fit.1)
-all_cover keep (Idle row ∷ rows) fit = (tt, all_cover keep rows fit.1)
-all_cover keep (Bad row ∷ rows) fit = (tt, all_cover keep rows fit.1)
-all_cover keep (Seal row ∷ rows) fit = (tt, all_cover keep rows fit.1)
-all_cover keep (Segment row ∷ rows) fit = (tt, all_cover keep rows fit.1)
-all_cover keep (Complete row ∷ rows) fit = (tt, all_cover keep rows fit.1)
-all_cover keep (Task row ∷ rows) fit = (tt, all_cover keep rows fit.1)
+all_cover keep (_ ∷ rows) fit = (tt, all_cover keep rows fit.1)
 
 -- where there is a seal there is the fact that comes with it
 sealed_fact : (P : DeliveryRow → Type 0) (C : ℕ → Type 0) (rows : List BackRow) (sealed : ℕ) → RowsFit P C rows
     → sealed_in rows ≡ Some sealed → C sealed
 sealed_fact P C [] sealed fit is = absurd (none-some sealed is)
 sealed_fact P C (Seal row ∷ rows) sealed fit is = subst C (same_Some row.instant sealed is) fit.0
-sealed_fact P C (Gap row ∷ rows) sealed fit is = sealed_fact P C rows sealed fit.1 is
-sealed_fact P C (Idle row ∷ rows) sealed fit is = sealed_fact P C rows sealed fit.1 is
-sealed_fact P C (Got row ∷ rows) sealed fit is = sealed_fact P C rows sealed fit.1 is
-sealed_fact P C (Bad row ∷ rows) sealed fit is = sealed_fact P C rows sealed fit.1 is
-sealed_fact P C (Segment row ∷ rows) sealed fit is = sealed_fact P C rows sealed fit.1 is
-sealed_fact P C (Complete row ∷ rows) sealed fit is = sealed_fact P C rows sealed fit.1 is
-sealed_fact P C (Task row ∷ rows) sealed fit is = sealed_fact P C rows sealed fit.1 is
+sealed_fact P C (_ ∷ rows) sealed fit is = sealed_fact P C rows sealed fit.1 is
 
 -- ---- decision by decision
 

@@ -315,14 +315,8 @@ module _ (disk : Disk) (latent : List ℕ) (replay : List Served) where
       → AllByRecursion (λ event. (last : ℕ × Content) → given lbn event ≡ Some last → IsFoundAfter latent replay lbn last)
       (flat_map deliveries_in rows)
   rows_found lbn [] fit = tt
-  rows_found lbn (Gap row ∷ rows) fit = rows_found lbn rows fit.1
-  rows_found lbn (Idle row ∷ rows) fit = rows_found lbn rows fit.1
   rows_found lbn (Got row ∷ rows) fit = (row_found row lbn fit.0, rows_found lbn rows fit.1)
-  rows_found lbn (Bad row ∷ rows) fit = rows_found lbn rows fit.1
-  rows_found lbn (Seal row ∷ rows) fit = rows_found lbn rows fit.1
-  rows_found lbn (Segment row ∷ rows) fit = rows_found lbn rows fit.1
-  rows_found lbn (Complete row ∷ rows) fit = rows_found lbn rows fit.1
-  rows_found lbn (Task row ∷ rows) fit = rows_found lbn rows fit.1
+  rows_found lbn (_ ∷ rows) fit = rows_found lbn rows fit.1
 
 -- ---- decision by decision
 

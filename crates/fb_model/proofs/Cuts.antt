@@ -98,16 +98,16 @@ cut_sector disk block lbn (cut ∷ cuts) all = elim (cases_Bool (is_cut_before d
   | inr joined ↦ rw joined (omega arith, all.1)
 ]
 
-pub cut_sectors : (disk : Shape) (block lbn n : ℕ) → AllByRecursion CutHasSector (cutting disk block lbn n)
+pub cuts_have_sectors : (disk : Shape) (block lbn n : ℕ) → AllByRecursion CutHasSector (cutting disk block lbn n)
 unfolding cutting
-cut_sectors disk block lbn zero = tt
-cut_sectors disk block lbn (suc n) = cut_sector disk block lbn (cutting disk block (lbn + 1) n) (cut_sectors disk block (lbn + 1) n)
+cuts_have_sectors disk block lbn zero = tt
+cuts_have_sectors disk block lbn (suc n) = cut_sector disk block lbn (cutting disk block (lbn + 1) n) (cuts_have_sectors disk block (lbn + 1) n)
 
-pub live_sectors : (disk : Shape) (block lbn : ℕ) (lives : List Bool) → AllByRecursion CutHasSector (live_cuts disk block lbn lives)
-live_sectors disk block lbn [] = tt
-live_sectors disk block lbn (true ∷ lives) = all_append CutHasSector (cutting disk block lbn block)
-    (live_cuts disk block (lbn + block) lives) (cut_sectors disk block lbn block) (live_sectors disk block (lbn + block) lives)
-live_sectors disk block lbn (false ∷ lives) = live_sectors disk block (lbn + block) lives
+pub live_have_sectors : (disk : Shape) (block lbn : ℕ) (lives : List Bool) → AllByRecursion CutHasSector (live_cuts disk block lbn lives)
+live_have_sectors disk block lbn [] = tt
+live_have_sectors disk block lbn (true ∷ lives) = all_append CutHasSector (cutting disk block lbn block)
+    (live_cuts disk block (lbn + block) lives) (cuts_have_sectors disk block lbn block) (live_have_sectors disk block (lbn + block) lives)
+live_have_sectors disk block lbn (false ∷ lives) = live_have_sectors disk block (lbn + block) lives
 
 -- what holds of the ranges of cuts holds of those of their blocks
 pub all_numbered : (P : ℕ → ℕ → Type 0) (task weight n : ℕ) (cuts : List Cut) → AllByRecursion (λ (cut : Cut). P cut.lbn cut.count) cuts
@@ -116,6 +116,6 @@ all_numbered P task weight n [] all = tt
 all_numbered P task weight n (cut ∷ cuts) all = (all.0, all_numbered P task weight (n + 1) cuts all.1)
 
 -- each block that a range is cut into has a sector
-pub numbered_sectors : (task weight n : ℕ) (cuts : List Cut) → AllByRecursion CutHasSector cuts
+pub blocks_have_sectors : (task weight n : ℕ) (cuts : List Cut) → AllByRecursion CutHasSector cuts
     → AllByRecursion HasSector (numbered task weight n cuts)
-numbered_sectors task weight n cuts all = all_numbered (λ lbn count. 0 < count) task weight n cuts all
+blocks_have_sectors task weight n cuts all = all_numbered (λ lbn count. 0 < count) task weight n cuts all

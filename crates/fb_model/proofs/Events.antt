@@ -21,11 +21,11 @@ use Rattle.fb_model.specs.Steps.{Delivery, Step, decision_in, take_call, chosen_
 -- ---- choices
 
 -- it still holds after a choice that the task can make
-abbrev pub IsKeptBy : Shape → (Past → Type 0) → ℕ → Past → Type 0
-IsKeptBy disk P task past = (s : LogSegment) (ss : List LogSegment) → unchosen (work past task) ≡ s ∷ ss → P past
+abbrev pub ChoiceKeeps : Shape → (Past → Type 0) → ℕ → Past → Type 0
+ChoiceKeeps disk P task past = (s : LogSegment) (ss : List LogSegment) → unchosen (work past task) ≡ s ∷ ss → P past
     → P (choose_best disk task past (s ∷ ss))
 
-module _ (P : Past → Type 0) (disk : Shape) (task : ℕ) (keeps : (past : Past) → IsKeptBy disk P task past) where
+module _ (P : Past → Type 0) (disk : Shape) (task : ℕ) (keeps : (past : Past) → ChoiceKeeps disk P task past) where
   by_once : (past : Past) → P past → P (choose_once disk task past)
   by_once past h = by_busy (is_busy (work past task)) where
     by_left : (left : List LogSegment) → unchosen (work past task) ≡ left → P (choose_best disk task past left)
@@ -42,7 +42,7 @@ module _ (P : Past → Type 0) (disk : Shape) (task : ℕ) (keeps : (past : Past
 
 -- a task that chooses cleans
 module _ (P : Past → Type 0) (disk : Shape) (task : ℕ)
-    (keeps : (past : Past) → is_clean (terms_of past task).kind ≡ true → IsKeptBy disk P task past) where
+    (keeps : (past : Past) → is_clean (terms_of past task).kind ≡ true → ChoiceKeeps disk P task past) where
   pub by_in : (past : Past) → P past → P (choose_in disk past task)
   by_in past h = by (is_clean (terms_of past task).kind && not (is_closed past task)) refl where
     by : (chooses : Bool) → (is_clean (terms_of past task).kind && not (is_closed past task)) ≡ chooses
@@ -53,7 +53,7 @@ module _ (P : Past → Type 0) (disk : Shape) (task : ℕ)
     by false is = h
 
 module _ (P : Past → Type 0) (disk : Shape)
-    (keeps : (past : Past) (task : ℕ) → is_clean (terms_of past task).kind ≡ true → IsKeptBy disk P task past) where
+    (keeps : (past : Past) (task : ℕ) → is_clean (terms_of past task).kind ≡ true → ChoiceKeeps disk P task past) where
   pub by_tasks : (tasks : List ℕ) (past : Past) → P past → P (fold (choose_in disk) past tasks)
   by_tasks [] past h = h
   by_tasks (task ∷ tasks) past h = by_tasks tasks (choose_in disk past task) (by_in P disk task (λ p. keeps p task) past h)
@@ -65,7 +65,7 @@ module _ (P : Past → Type 0) (disk : Shape)
 -- whatever is chosen
 module _ (P : Past → Type 0) (disk : Shape)
     (keeps : (past : Past) (task : ℕ) (segment : LogSegment) (blocks : List Block) → P past → P (chose task segment blocks ∷ past)) where
-  chosen_keeps : (past : Past) (task : ℕ) → is_clean (terms_of past task).kind ≡ true → IsKeptBy disk P task past
+  chosen_keeps : (past : Past) (task : ℕ) → is_clean (terms_of past task).kind ≡ true → ChoiceKeeps disk P task past
   chosen_keeps past task cleans s ss are h =
       let best = best_of is_better s ss in
       keeps past task best (next_blocks past task (live_cuts disk (terms_of past task).block best.first best.live)) h

@@ -19,7 +19,7 @@ use Rattle.fb_model.specs.Decisions.{Decision, instant_of}
 use Rattle.fb_model.specs.History.{Past, called, tested, delivered, finished, calls_of, opened_by, tasks, terms_of}
 use Rattle.fb_model.specs.Steps.{Delivery, Step, decision_in, take_call, calls_left, calls_due, chosen_past, past_after}
 use Rattle.fb_model.proofs.HistoriesUpTo.{RiseInTime, due_first}
-use Rattle.fb_model.proofs.Events.{IsKeptBy, by_choices, by_step}
+use Rattle.fb_model.proofs.Events.{ChoiceKeeps, by_choices, by_step}
 
 -- ---- its tasks are those that its calls open
 
@@ -35,9 +35,9 @@ opened_same (_ ∷ past) = opened_same past
 
 -- ---- what each thing that can happen keeps
 
-pub record IsKept (disk : Shape) (P : Past → Type 0) : Type 0 where
+pub record EventsKeep (disk : Shape) (P : Past → Type 0) : Type 0 where
   pub call : (past : Past) (call : Call) → MayAsk disk (calls_of past) call.task call.action → P past → P (take_call disk past call)
-  pub choice : (past : Past) (task : ℕ) → is_clean (terms_of past task).kind ≡ true → IsKeptBy disk P task past
+  pub choice : (past : Past) (task : ℕ) → is_clean (terms_of past task).kind ≡ true → ChoiceKeeps disk P task past
   pub test : (past : Past) (rows : List BackRow) → P past → P (tested rows ∷ past)
   pub delivery : (past : Past) (row : DeliveryRow) → P past → P (delivered row ∷ past)
   pub finish : (past : Past) (request : Request) → P past → P (finished request ∷ past)
@@ -46,7 +46,7 @@ pub record IsKept (disk : Shape) (P : Past → Type 0) : Type 0 where
 abbrev pub HoldsSoFar : Inputs → (Past → Type 0) → Past → Type 0
 HoldsSoFar inputs P past = AreAllowed inputs.disk.map (calls_of past) (calls_left inputs.calls past) × P past
 
-module _ (inputs : Inputs) (rising : RiseInTime inputs.calls) (P : Past → Type 0) (keeps : IsKept inputs.disk.map P) where
+module _ (inputs : Inputs) (P : Past → Type 0) (keeps : EventsKeep inputs.disk.map P) where
   calls_hold : (due rest : List Call) (past : Past) → calls_left inputs.calls past ≡ due ++ rest → HoldsSoFar inputs P past
       → HoldsSoFar inputs P (fold (take_call inputs.disk.map) past due)
   calls_hold [] rest past next h = h
@@ -58,9 +58,10 @@ module _ (inputs : Inputs) (rising : RiseInTime inputs.calls) (P : Past → Type
       calls_hold due rest (take_call inputs.disk.map past call) left
       (subst (AreAllowed inputs.disk.map (calls_of past ++ call ∷ [])) (sym left) may.2, keeps.call past call may.1 h.1)
 
-  pub chosen_holds : (past : Past) (decision : Decision) → HoldsSoFar inputs P past → HoldsSoFar inputs P (chosen_past inputs past decision)
+  pub chosen_holds : RiseInTime inputs.calls → (past : Past) (decision : Decision) → HoldsSoFar inputs P past
+      → HoldsSoFar inputs P (chosen_past inputs past decision)
   unfolding chosen_past
-  chosen_holds past decision h =
+  chosen_holds rising past decision h =
       let due = calls_due inputs.calls past (instant_of decision) in
       let rest = due_first inputs.calls past (instant_of decision) rising in
       by_choices (HoldsSoFar inputs P) inputs.disk.map (λ p task cleans s ss are now. (now.0, keeps.choice p task cleans s ss are now.1))

@@ -25,8 +25,8 @@ use Rattle.fb_model.specs.Segments.{is_better, with_choices}
 use Rattle.fb_model.specs.Steps.{Delivery, Step, decision_in, blocks_by, take_call, calls_left, calls_due, chosen_past, past_after}
 use Rattle.fb_model.specs.Accepted.{IsRising}
 pub use Rattle.fb_model.proofs.Cuts.{HasSector}
-use Rattle.fb_model.proofs.Cuts.{cut_sectors, live_sectors, numbered_sectors}
-use Rattle.fb_model.proofs.Events.{IsKeptBy, by_choices, by_calls, by_step}
+use Rattle.fb_model.proofs.Cuts.{cuts_have_sectors, live_have_sectors, blocks_have_sectors}
+use Rattle.fb_model.proofs.Events.{ChoiceKeeps, by_choices, by_calls, by_step}
 
 -- ---- what events have
 
@@ -42,11 +42,8 @@ abbrev pub AreFine : (DeliveryRow → Type 0) → Past → Type 0
 AreFine P past = AllByRecursion (IsFine P) past
 
 fine_weaker : (P Q : DeliveryRow → Type 0) → ((row : DeliveryRow) → P row → Q row) → (event : Event) → IsFine P event → IsFine Q event
-fine_weaker P Q f (called call blocks) h = h
-fine_weaker P Q f (chose task segment blocks) h = h
-fine_weaker P Q f (tested rows) h = tt
 fine_weaker P Q f (delivered row) h = f row h
-fine_weaker P Q f (finished request) h = tt
+fine_weaker P Q f _ h = h
 
 pub all_fine_weaker : (P Q : DeliveryRow → Type 0) → ((row : DeliveryRow) → P row → Q row) → (past : Past) → AreFine P past → AreFine Q past
 all_fine_weaker P Q f past all = all_weaker (IsFine P) (IsFine Q) (fine_weaker P Q f) past all
@@ -56,25 +53,23 @@ module _ (P : DeliveryRow → Type 0) where
   registered_fine [] all = tt
   registered_fine (called call blocks ∷ past) all = all_append HasSector (registered past) blocks (registered_fine past all.1) all.0
   registered_fine (chose task segment blocks ∷ past) all = all_append HasSector (registered past) blocks (registered_fine past all.1) all.0
-  registered_fine (tested rows ∷ past) all = registered_fine past all.1
-  registered_fine (delivered row ∷ past) all = registered_fine past all.1
-  registered_fine (finished request ∷ past) all = registered_fine past all.1
+  registered_fine (_ ∷ past) all = registered_fine past all.1
 
   pub wanted_fine : (past : Past) → AreFine P past → AllByRecursion HasSector (wanted past)
   unfolding wanted
   wanted_fine past all = all_filter HasSector (λ block. is_wanted (state past block)) (registered past) (registered_fine past all)
 
   blocks_fine : (disk : Shape) (past : Past) (task : ℕ) (action : Action) → AllByRecursion HasSector (blocks_by disk past task action)
-  blocks_fine disk past task (Want first count) = numbered_sectors task (terms_of past task).weight (length (blocks_of past task))
-      (cutting disk (terms_of past task).block first count) (cut_sectors disk (terms_of past task).block first count)
+  blocks_fine disk past task (Want first count) = blocks_have_sectors task (terms_of past task).weight (length (blocks_of past task))
+      (cutting disk (terms_of past task).block first count) (cuts_have_sectors disk (terms_of past task).block first count)
   blocks_fine disk past task _ = tt
 
   -- a choice registers blocks that have sectors
-  choice_fine : (disk : Shape) (past : Past) (task : ℕ) → is_clean (terms_of past task).kind ≡ true → IsKeptBy disk (AreFine P) task past
+  choice_fine : (disk : Shape) (past : Past) (task : ℕ) → is_clean (terms_of past task).kind ≡ true → ChoiceKeeps disk (AreFine P) task past
   choice_fine disk past task cleans segment segments are all =
       let best = best_of is_better segment segments in
       let cuts = live_cuts disk (terms_of past task).block best.first best.live in (
-        numbered_sectors task (terms_of past task).weight (length (blocks_of past task)) cuts (live_sectors disk
+        blocks_have_sectors task (terms_of past task).weight (length (blocks_of past task)) cuts (live_have_sectors disk
             (terms_of past task).block best.first best.live),
         all,
       )

@@ -18,7 +18,7 @@ use Rattle.fb_rows.specs.declared.back.BackRow.TheVariants.{Got as BackGot, Bad 
 use Rattle.fb_rows.specs.declared.back.BackRow.TheVariants.{Complete as BackComplete}
 use Rattle.fb_rows.specs.declared.back.DeliveryRow.{DeliveryRow}
 use Rattle.fb_model.specs.Content.{Medium, contents_at}
-use Rattle.fb_model.specs.History.{Past, called, chose, tested, delivered, finished, task_numbers, terms_of, blocks_of, same_block}
+use Rattle.fb_model.specs.History.{Past, delivered, task_numbers, terms_of, blocks_of, same_block}
 use Rattle.fb_model.specs.History.{is_open_backup}
 use Rattle.fb_model.specs.Completion.{Choice, choices, work, is_complete, was_complete}
 use Rattle.fb_model.specs.Images.{bad_sectors, is_scrub, findings, held_at_delivery, packed, is_newly_cleaned, segment_rows, image}
@@ -132,10 +132,7 @@ module _ (done : ℕ) (a b : Medium) (same : HoldSame done a b) where
   same_held [] block fine = refl
   same_held (delivered row ∷ past) block fine = ap₂ (λ x y. if same_block row.block block then x else y)
       (same_contents done a b same block.lbn block.count row.begin fine.0) (same_held past block fine.1)
-  same_held (called call blocks ∷ past) block fine = same_held past block fine.1
-  same_held (chose task segment blocks ∷ past) block fine = same_held past block fine.1
-  same_held (tested rows ∷ past) block fine = same_held past block fine.1
-  same_held (finished request ∷ past) block fine = same_held past block fine.1
+  same_held (_ ∷ past) block fine = same_held past block fine.1
 
   same_packed : (past : Past) (choice : Choice) → AreFine (HasBegun done) past → packed a past choice ≡ packed b past choice
   same_packed past choice fine =

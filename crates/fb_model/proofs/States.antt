@@ -6,7 +6,7 @@ use Rattle.std.proofs.lemmas.List.Folds.{list_any-append}
 use Rattle.fb_wanted.specs.declared.block.Block.{Block}
 use Rattle.fb_wanted.specs.declared.block.State.{State}
 use Rattle.fb_wanted.specs.declared.block.State.TheVariants.{Wanted}
-use Rattle.fb_model.specs.History.{Event, called, chose, tested, delivered, finished, Past, registered, registers, same_block}
+use Rattle.fb_model.specs.History.{Event, called, chose, Past, registered, registers, same_block}
 use Rattle.fb_model.specs.History.{state_after_event, state_from}
 
 first_any : {X : Type 0} (p : X → Bool) (xs ys : List X) → list_any p ys ≡ false → list_any p (xs ++ ys) ≡ true → list_any p xs ≡ true
@@ -18,9 +18,7 @@ registered_before : (past : Past) (event : Event) (block : Block) → registers 
     → list_any (same_block block) (registered past) ≡ true
 registered_before past (called call blocks) block other h = first_any (same_block block) (registered past) blocks other h
 registered_before past (chose task segment blocks) block other h = first_any (same_block block) (registered past) blocks other h
-registered_before past (tested rows) block other h = h
-registered_before past (delivered row) block other h = h
-registered_before past (finished request) block other h = h
+registered_before past _ block other h = h
 
 pub states_begin : (past : Past) (block : Block) (before : State) → list_any (same_block block) (registered past) ≡ true
     → state_from before past block ≡ state_from Wanted past block

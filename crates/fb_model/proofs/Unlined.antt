@@ -26,7 +26,7 @@ use Rattle.fb_rows.specs.declared.back.DeliveryRow.{DeliveryRow}
 use Rattle.fb_model.specs.Inputs.{Inputs}
 use Rattle.fb_model.specs.Content.{Medium, contents_at}
 use Rattle.fb_model.specs.Decisions.{Decision, serves, idles, ends, instant_of}
-use Rattle.fb_model.specs.History.{Event, called, chose, tested, delivered, finished, Past, LogSegment, calls_of, opened_by, tasks}
+use Rattle.fb_model.specs.History.{Event, called, chose, tested, delivered, Past, LogSegment, calls_of, opened_by, tasks}
 use Rattle.fb_model.specs.History.{task_numbers, terms_of, registered, blocks_of, same_block, registers, delivers, aborts, overwrites}
 use Rattle.fb_model.specs.History.{is_seal_of, is_sealed, is_open_backup, bare_state, content_of, suspended_after, is_suspended, state}
 use Rattle.fb_model.specs.History.{wanted}
@@ -46,10 +46,7 @@ use Rattle.fb_model.proofs.FullRuns.{IsFullStep}
 
 abbrev unlined : Event → Event
 unlined (called call blocks) = called (without_line call) blocks
-unlined (chose task segment blocks) = chose task segment blocks
-unlined (tested rows) = tested rows
-unlined (delivered row) = delivered row
-unlined (finished request) = finished request
+unlined event = event
 
 abbrev pub unlined_past : Past → Past
 unlined_past past = map unlined past
@@ -100,10 +97,7 @@ after_event open_backup event block before =
 same_event : (open_backup : Bool) (event : Event) (block : Block) (before : State)
     → after_event open_backup (unlined event) block before ≡ after_event open_backup event block before
 same_event open_backup (called call blocks) block before = refl
-same_event open_backup (chose task segment blocks) block before = refl
-same_event open_backup (tested rows) block before = refl
-same_event open_backup (delivered row) block before = refl
-same_event open_backup (finished request) block before = refl
+same_event open_backup _ block before = refl
 
 same_bare : (past : Past) (block : Block) → bare_state (unlined_past past) block ≡ bare_state past block
 unfolding bare_state
@@ -116,10 +110,7 @@ same_found : (past : Past) (block : Block) → content_of (unlined_past past) bl
 unfolding content_of
 same_found [] block = refl
 same_found (delivered row ∷ past) block = ap (λ before. if same_block row.block block then row.content else before) (same_found past block)
-same_found (called call blocks ∷ past) block = same_found past block
-same_found (chose task segment blocks ∷ past) block = same_found past block
-same_found (tested rows ∷ past) block = same_found past block
-same_found (finished request ∷ past) block = same_found past block
+same_found (_ ∷ past) block = same_found past block
 
 same_suspended : (past : Past) (task : ℕ) → is_suspended (unlined_past past) task ≡ is_suspended past task
 same_suspended [] task = refl
@@ -184,10 +175,7 @@ same_complete past task = ap is_done (same_work past task)
 same_was : (past : Past) (task : ℕ) → was_complete (unlined_past past) task ≡ was_complete past task
 same_was [] task = refl
 same_was (tested rows ∷ past) task = same_complete past task
-same_was (called call blocks ∷ past) task = same_was past task
-same_was (chose chooser segment blocks ∷ past) task = same_was past task
-same_was (delivered row ∷ past) task = same_was past task
-same_was (finished request ∷ past) task = same_was past task
+same_was (_ ∷ past) task = same_was past task
 
 same_held : (medium : Medium) (past : Past) (block : Block)
     → held_at_delivery medium (unlined_past past) block ≡ held_at_delivery medium past block
@@ -195,10 +183,7 @@ same_held medium [] block = refl
 same_held medium (delivered row ∷ past) block =
     ap (λ held. if same_block row.block block then contents_at medium block.lbn block.count row.begin else held)
     (same_held medium past block)
-same_held medium (called call blocks ∷ past) block = same_held medium past block
-same_held medium (chose task segment blocks ∷ past) block = same_held medium past block
-same_held medium (tested rows ∷ past) block = same_held medium past block
-same_held medium (finished request ∷ past) block = same_held medium past block
+same_held medium (_ ∷ past) block = same_held medium past block
 
 -- ---- calls and choices
 

@@ -13,7 +13,7 @@ use Rattle.fb_tasks.proofs.Words.{chosen-silent, MaySettle, TaskView, nil_from_l
 use Rattle.fb_tasks.proofs.{ChoiceSteps.best_left, ChoiceSteps.chosen_blocks, ChoiceSteps.chosen_for, ChoiceSteps.next_view}
 use Rattle.fb_tasks.proofs.{States.seen, Segmented.numbered_given, ChoiceSteps.once_is, ChoiceSteps.left_less, ChoiceSteps.added_own}
 use Rattle.fb_tasks.proofs.{ChoiceSteps.segment_rows_of, ChoiceSteps.segment_rows_is, ChoiceSteps.few_less, ChoiceSteps.best_of_left}
-use Rattle.fb_model.proofs.Events.{IsKeptBy, by_in, by_tasks, by_task}
+use Rattle.fb_model.proofs.Events.{ChoiceKeeps, by_in, by_tasks, by_task}
 use Rattle.fb_tasks.proofs.{RowsOf.reported_rows, Cuts.range_next, Tested.rows_more, Frames.set_same}
 
 up_to_still : (n : ℕ) (disk : Shape) (task : ℕ) (past : Past) → (0 < n → choose_once disk task past ≡ past)
@@ -129,7 +129,7 @@ module _ (disk : Shape) (task : ℕ) where
 
 -- what a choice keeps that the view of its task allows
 pub by_view : (P : Past → Type 0) (disk : Shape) (task : ℕ) (past : Past) → ((s : LogSegment) (ss : List LogSegment)
-    → unchosen (view past task).work ≡ s ∷ ss → P past → P (best_of_left disk task past (s ∷ ss))) → IsKeptBy disk P task past
+    → unchosen (view past task).work ≡ s ∷ ss → P past → P (best_of_left disk task past (s ∷ ss))) → ChoiceKeeps disk P task past
 unfolding view
 by_view P disk task past keeps = keeps
 
