@@ -3,24 +3,24 @@ use Rattle.std.proofs.Common.{◌≡◌, ℕ, List, [], ◌∷◌, true, sym, su
 use Rattle.std.specs.Prelude.{not, filter, map}
 use Rattle.std.specs.List.{AllByRecursion, flat_map}
 use Rattle.std.proofs.lemmas.Bool.{and_parts}
-use Rattle.fb_units.proofs.Lists.{all_append, all_filter, all_weaker}
+use Rattle.fb_units.proofs.Lists.{all_append, all_weaker}
 use Rattle.fb_script.specs.Sessions.{is_backup}
 use Rattle.fb_wanted.specs.declared.block.Block.{Block}
-use Rattle.fb_wanted.specs.States.{is_delivered, is_wanted}
+use Rattle.fb_wanted.specs.States.{is_delivered}
 use Rattle.fb_rows.specs.declared.back.DeliveryRow.{DeliveryRow}
 use Rattle.fb_model.specs.Inputs.{Inputs}
 use Rattle.fb_model.specs.Accepted.{IsAccepted}
 use Rattle.fb_model.specs.Content.{Medium, medium_of, contents_at}
 use Rattle.fb_model.specs.Deliveries.{due}
 use Rattle.fb_model.specs.Decisions.{instant_of}
-use Rattle.fb_model.specs.History.{Past, terms_of, blocks_of, registered, wanted, state, is_sealed, is_open_backup}
+use Rattle.fb_model.specs.History.{Past, terms_of, blocks_of, wanted, is_sealed, is_open_backup}
 use Rattle.fb_model.specs.Completion.{work}
 use Rattle.fb_model.specs.Images.{image}
 use Rattle.fb_model.specs.Steps.{Step, decision_in, chosen_past, past_after, AtEach}
 use Rattle.fb_model.specs.Steps.{step_rows, history}
 use Rattle.fb_model.specs.SoundRun.{IsTested}
 use Rattle.fb_model.specs.FullRun.{IsAllDelivered}
-use Rattle.fb_model.proofs.Due.{HasBytes, IsDueRow, due_block, due_bytes, due_true}
+use Rattle.fb_model.proofs.Due.{HasBytes, IsDueRow, due_block, due_bytes, due_true, wanted_all}
 use Rattle.fb_model.proofs.Cuts.{HasSector}
 use Rattle.fb_model.proofs.EachRow.{RowsHave, AnyEnds, any_linked, step_has, steps_have, tasks_have}
 use Rattle.fb_model.proofs.Histories.{chosen_holds, after_holds}
@@ -42,15 +42,11 @@ bytes_some medium got bytes some =
       contents_have medium got.block.lbn got.block.count got.begin,
     ))
 
--- ---- the rows of tests
+-- ---- what rows have
 
 module _ (inputs : Inputs) where
   abbrev medium : Medium
   medium = medium_of inputs
-
-  wanted_some : (past : Past) → HoldsOf inputs past → AllByRecursion HasSector (wanted past)
-  unfolding wanted
-  wanted_some past h = all_filter HasSector (λ block. is_wanted (state past block)) (registered past) h.1.some
 
   gots_some : (past : Past) (step : Step) → HoldsOf inputs (chosen_past inputs past (decision_in step))
       → IsAllDelivered inputs medium past step
@@ -62,7 +58,7 @@ module _ (inputs : Inputs) where
       (λ got is_due. bytes_some medium got (due_bytes medium.disk (contents_at medium) step.act HasSector got is_due)
       (due_block medium.disk (contents_at medium) step.act HasSector got is_due))
       (due medium.disk (contents_at medium) step.act (wanted chosen))
-      (due_true medium.disk (contents_at medium) step.act HasSector (wanted chosen) (wanted_some chosen h)))
+      (due_true medium.disk (contents_at medium) step.act HasSector (wanted chosen) (wanted_all HasSector chosen h.1.some)))
 
   seal_counts : (past : Past) (now task : ℕ) → HoldsOf inputs past → is_open_backup past task ≡ true
       → CountsSectors (Seal (record { task = task; instant = now; content = image medium past task now }))
@@ -82,9 +78,11 @@ module _ (inputs : Inputs) where
 
   rows_count : RowsHave medium CountsSectors (λ now past. HoldsOf inputs past) AnyEnds
   rows_count = record {
-    segments = λ now past task choice h opened. tt;
-    seals = λ now past task h opened is_open done. seal_counts past now task h is_open;
-    completes = λ now past task h opened. tt;
+    test = λ now past h. record {
+      segments = λ task choice opened. tt;
+      seals = λ task opened is_open done. seal_counts past now task h is_open;
+      completes = λ task opened. tt;
+    };
     finds = λ row lbn got. tt;
     delivers = λ now past row h got linked. h;
     tests = λ now past rows h. h;

@@ -3,21 +3,20 @@ use Rattle.std.proofs.Common.{◌≡◌, ℕ, ◌<◌, ◌≤◌, List, ◌∷�
 use Rattle.std.specs.List.{AllByRecursion}
 use Rattle.std.proofs.lemmas.List.{length-append, take-append-drop}
 use Rattle.std.proofs.lemmas.List.Concat.{flat_map-append}
-use Rattle.fb_units.proofs.Lists.{all_filter, all_left, all_weaker}
+use Rattle.fb_units.proofs.Lists.{all_left, all_weaker}
 use Rattle.fb_units.proofs.Each.{all_any}
 use Rattle.fb_geometry.specs.Shape.{Shape}
 use Rattle.fb_script.specs.declared.call.Call.{Call}
 use Rattle.fb_script.specs.Allowed as allowed
 use Rattle.fb_wanted.specs.declared.block.Block.{Block}
 use Rattle.fb_wanted.specs.declared.block.Entry.{Entry}
-use Rattle.fb_wanted.specs.States.{is_wanted}
 use Rattle.fb_rows.specs.declared.back.DeliveryRow.{DeliveryRow}
 use Rattle.fb_model.specs.Inputs.{Inputs}
 use Rattle.fb_model.specs.Content.{Medium, medium_of, contents_at}
 use Rattle.fb_model.specs.Deliveries.{due}
-use Rattle.fb_model.proofs.Due.{IsDueRow, due_block, due_true}
+use Rattle.fb_model.proofs.Due.{IsDueRow, due_block, due_true, wanted_all}
 use Rattle.fb_model.specs.Decisions.{instant_of, Act}
-use Rattle.fb_model.specs.History.{Event, delivered, finished, tested, Past, tasks, registered, registered_by, wanted, state}
+use Rattle.fb_model.specs.History.{Event, delivered, finished, tested, Past, tasks, registered, registered_by, wanted}
 use Rattle.fb_model.specs.Steps.{Delivery, Step, decision_in, chosen_past, past_after}
 use Rattle.fb_model.specs.Steps.{step_rows, task_rows}
 use Rattle.fb_tasks.specs.declared.session.Session.{Session}
@@ -62,9 +61,11 @@ module _ (n : ℕ) where
 
   fits_kept : (medium : Medium) → RowsHave medium (HasTaskBelow n) (λ now past. PastFits n past) AnyEnds
   fits_kept medium = record {
-    segments = λ now past task choice fits opened. let few = fits.few in omega (arith, opened, few);
-    seals = λ now past task fits opened is_open done. let few = fits.few in omega (arith, opened, few);
-    completes = λ now past task fits opened. let few = fits.few in omega (arith, opened, few);
+    test = λ now past fits. let few = fits.few in record {
+      segments = λ task choice opened. omega (arith, opened, few);
+      seals = λ task opened is_open done. omega (arith, opened, few);
+      completes = λ task opened. omega (arith, opened, few);
+    };
     finds = λ row lbn got. got;
     delivers = λ now past row fits got linked. record { blocks = fits.blocks; few = fits.few };
     tests = λ now past rows fits. record { blocks = fits.blocks; few = fits.few };
@@ -80,10 +81,6 @@ module _ (n : ℕ) where
       (due_block medium.disk (contents_at medium) act (BlockFits n)) (due medium.disk (contents_at medium) act blocks)
       (due_true medium.disk (contents_at medium) act (BlockFits n) blocks all)
 
-  wanted_fit : (past : Past) → PastFits n past → AllByRecursion (BlockFits n) (wanted past)
-  unfolding wanted
-  wanted_fit past fits = all_filter (BlockFits n) (λ block. is_wanted (state past block)) (registered past) fits.blocks
-
   pub step_fits : (inputs : Inputs) (past : Past) (step : Step) → IsMade inputs past step → PastFits n (past_after inputs past step)
       → AllByRecursion (HasTaskBelow n) (step_rows inputs.disk step)
   step_fits inputs past step made fits =
@@ -92,7 +89,7 @@ module _ (n : ℕ) where
       let chosen_fits = fits_chosen inputs past step fits in
       step_has medium (HasTaskBelow n) (λ now past. PastFits n past) AnyEnds (fits_kept medium) inputs past step chosen_fits made.tested
       (λ row. tt) (λ dwell. tt)
-      (subst (AllByRecursion GotFits) (sym made.all) (due_fits medium step.act (wanted chosen) (wanted_fit chosen chosen_fits)))
+      (subst (AllByRecursion GotFits) (sym made.all) (due_fits medium step.act (wanted chosen) (wanted_all (BlockFits n) chosen chosen_fits.blocks)))
       (any_linked (instant_of (decision_in step)) (map (λ delivery. delivery.got) step.deliveries))
 
   pub tasks_fit : (past : Past) → PastFits n past → AllByRecursion (HasTaskBelow n) (task_rows past)

@@ -13,15 +13,15 @@ use Rattle.fb_geometry.specs.Shape.{Shape}
 use Rattle.fb_wanted.specs.declared.block.Block.{Block}
 use Rattle.fb_wanted.specs.declared.block.Entry.{Entry}
 use Rattle.fb_script.specs.Sessions.{is_clean}
-use Rattle.fb_script.specs.declared.call.Action.{Action}
-use Rattle.fb_script.specs.declared.call.Action.TheVariants.{Open}
-use Rattle.fb_model.specs.History.{Event, called, chose, tested, delivered, finished, Past, tasks, opened_by, registered, registered_by}
+use Rattle.fb_model.specs.History.{Event, called, chose, Past, tasks, registered, registered_by}
 use Rattle.fb_model.specs.History.{blocks_of, same_block}
 use Rattle.fb_model.specs.Completion.{Choice, choices, view}
 use Rattle.fb_tasks.specs.declared.session.Session.{Session}
 use Rattle.fb_tasks.specs.Standing.{AreNumbered, IsBlockOf}
 use Rattle.fb_tasks.specs.Telling.{Tells}
 use Rattle.fb_decide.specs.Deliveries.{IsRegistered}
+use Rattle.fb_model.proofs.Histories.{opened_more}
+use Rattle.fb_script.specs.Allowed.{terms_in}
 use Rattle.fb_tasks.proofs.Registered.{own, itself}
 use Rattle.fb_tasks.proofs.Sealed.{numbered_at}
 
@@ -39,9 +39,7 @@ in_any blocks i block h = among-any (same_block block) blocks block (i, h) (itse
 pub registered_after : (past : Past) (event : Event) → registered (event ∷ past) ≡ registered past ++ registered_by event
 registered_after past (called call blocks) = refl
 registered_after past (chose task segment blocks) = refl
-registered_after past (tested rows) = sym (append-nil (registered past))
-registered_after past (delivered row) = sym (append-nil (registered past))
-registered_after past (finished request) = sym (append-nil (registered past))
+registered_after past _ = sym (append-nil (registered past))
 
 -- what was registered before stays so, and there is nothing else but what the event registers
 pub still_there : (past : Past) (event : Event) (block : Block) → IsRegistered past block → IsRegistered (event ∷ past) block
@@ -120,11 +118,8 @@ AreDistinct past = (a b : Block) → IsRegistered past a → IsRegistered past b
 
 -- tasks are opened, and never less
 pub tasks_more : (past : Past) (event : Event) → length (tasks past) ≤ length (tasks (event ∷ past))
-tasks_more past (called call blocks) = by_action call.action where
-  by_action : (action : Action) → length (tasks past) ≤ length (opened_by action (tasks past))
-  by_action (Open kind weight block) =
-      omega (arith, length-append (tasks past) (record { kind = kind; weight = weight; block = block } ∷ []))
-  by_action _ = omega arith
+tasks_more past (called call blocks) =
+    omega (arith, ap length (opened_more call.action (tasks past)), length-append (tasks past) (terms_in call.action))
 tasks_more past (_) = omega arith
 
 pub registered-kept : (past : Past) (event : Event) → registered_by event ≡ [] → registered (event ∷ past) ≡ registered past

@@ -2,20 +2,20 @@
 use Rattle.std.proofs.Common.{◌≡◌, ℕ, ◌<◌, ◌≤◌, List, [], ◌∷◌, ◌++◌, length, map, refl, ap, sym, subst, ◌∙◌, arith, append_assoc}
 use Rattle.std.proofs.Common.{append-nil}
 use Rattle.std.specs.List.{AllByRecursion}
-use Rattle.fb_units.proofs.Lists.{all_filter, all_weaker}
+use Rattle.fb_units.proofs.Lists.{all_weaker}
 use Rattle.fb_units.specs.declared.types.Request.{Request}
 use Rattle.fb_wanted.specs.declared.block.Block.{Block}
-use Rattle.fb_wanted.specs.States.{is_wanted}
 use Rattle.fb_rows.specs.declared.gap.How.TheVariants.{Idle as ByIdle}
 use Rattle.fb_rows.specs.declared.back.DeliveryRow.{DeliveryRow}
 use Rattle.fb_rows.specs.declared.back.BackRow.{BackRow}
+use Rattle.fb_model.proofs.Due.{wanted_all}
 use Rattle.fb_model.specs.Inputs.{Inputs}
 use Rattle.fb_model.specs.Accepted.{IsRequestOf}
 use Rattle.fb_model.specs.Content.{contents_at, medium_of}
 use Rattle.fb_model.specs.PlainReplay.{Served, service}
 use Rattle.fb_model.specs.Decisions.{Decision, serves, idles, ends, instant_of, end_of, Act, serving, idling, ending, decision_of}
 use Rattle.fb_model.specs.Deliveries.{due, caught_rows}
-use Rattle.fb_model.specs.History.{Past, tested, tasks, registered, wanted, state, bare_state}
+use Rattle.fb_model.specs.History.{Past, tested, tasks, registered, wanted, bare_state}
 use Rattle.fb_model.specs.Steps.{Delivery, Step, decision_in, chosen_past, past_after, with_delivery, with_finish, opening, step_rows}
 use Rattle.fb_model.specs.Steps.{delivery_rows, chosen_by}
 use Rattle.fb_model.specs.SoundRun.{IsTested}
@@ -60,10 +60,6 @@ wanted_tested past rows = refl
 pub gots_followed : (past : Past) (gots : List DeliveryRow) → map (λ (delivery : Delivery). delivery.got) (followed past gots) ≡ gots
 gots_followed past [] = refl
 gots_followed past (got ∷ gots) = ap (λ rest. got ∷ rest) (gots_followed (with_delivery past (delivery_of past got)) gots)
-
-wanted_all : (P : Block → Type 0) (past : Past) → AllByRecursion P (registered past) → AllByRecursion P (wanted past)
-unfolding wanted
-wanted_all P past all = all_filter P (λ block. is_wanted (state past block)) (registered past) all
 
 -- the rows of a step behind those before it
 rows_join : (before test opens delivered : List BackRow) (rows middle : List BackRow) → middle ≡ before ++ test

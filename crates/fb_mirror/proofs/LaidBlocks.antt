@@ -22,12 +22,11 @@ use Rattle.fb_script.specs.Allowed.{AreAllowed, MayAsk, Terms, terms_in}
 use Rattle.fb_script.specs.Blocks.{live_cuts}
 use Rattle.fb_script.specs.Sessions.{is_clean}
 use Rattle.fb_wanted.specs.declared.block.Block.{Block}
-use Rattle.fb_wanted.specs.States.{is_wanted}
 use Rattle.fb_model.specs.Accepted.{IsAccepted}
 use Rattle.fb_model.specs.Inputs.{Inputs}
 use Rattle.fb_model.specs.Decisions.{Decision}
 use Rattle.fb_model.specs.History.{LogSegment, Past, blocks_of, calls_of, opened_by, registered}
-use Rattle.fb_model.specs.History.{state, tasks, terms_of, wanted}
+use Rattle.fb_model.specs.History.{tasks, terms_of}
 use Rattle.fb_model.specs.Completion.{segment_by, segments, work}
 use Rattle.fb_model.specs.Segments.{is_better, is_chosen, next_blocks}
 use Rattle.fb_model.specs.Steps.{Step, decision_in, blocks_by, past_after, chosen_past, take_call}
@@ -184,8 +183,3 @@ module _ (inputs : Inputs) (rising : IsRising (map (λ (call : Call). call.insta
   pub laid_after : (past : Past) (step : Step) → AreLaid inputs past → AreLaid inputs (past_after inputs past step)
   laid_after past step laid = after_holds inputs (IsLaid inputs.disk.map) (laid_kept inputs.disk.map) past step
       (laid_chosen past (decision_in step) laid)
-
-  -- the wanted blocks lie on the disk
-  pub wanted_lies : (past : Past) → AreLaid inputs past → AllByRecursion (LiesOn inputs.disk.map) (wanted past)
-  unfolding wanted
-  wanted_lies past laid = all_filter (LiesOn inputs.disk.map) (λ block. is_wanted (state past block)) (registered past) laid.1.blocks_lie

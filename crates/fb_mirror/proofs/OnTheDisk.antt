@@ -24,10 +24,10 @@ use Rattle.fb_model.specs.Laws.{ForegroundListsAscend, OnePlainReplay}
 use Rattle.fb_model.specs.PlainReplay.{Served, finish}
 use Rattle.fb_model.specs.SoundRun.{IsDelivered, IsTested}
 use Rattle.fb_model.specs.Steps.{AtEach, Delivery, Step, decision_in, step_rows, past_after, chosen_past}
-use Rattle.fb_model.proofs.Due.{HasBytes, IsDueRow, due_block, due_bytes, delivery_true}
+use Rattle.fb_model.proofs.Due.{HasBytes, IsDueRow, due_block, due_bytes, delivery_true, wanted_all}
 use Rattle.fb_mirror.specs.Replacement.{IsWithin, deliveries_in, events, writes_in}
 use Rattle.fb_mirror.specs.Survivor.{sectors}
-use Rattle.fb_mirror.proofs.LaidBlocks.{AreLaid, LiesOn, laid_after, laid_first, laid_chosen, wanted_lies}
+use Rattle.fb_mirror.proofs.LaidBlocks.{AreLaid, LiesOn, laid_after, laid_first, laid_chosen}
 use Rattle.fb_mirror.proofs.RunRows.{NoFact, RowsFit, back_fits, gots_fit_step}
 use Rattle.fb_mirror.proofs.Writing.{AreServed, are_served}
 
@@ -81,7 +81,8 @@ steps_within inputs medium rising past (step ∷ steps) laid some tests = (
       (LiesOn inputs.disk.map) row due_row) (due_block medium.disk (contents_at medium) step.act (LiesOn inputs.disk.map) row due_row))
       (map (λ (delivery : Delivery). delivery.got) step.deliveries)
       (delivery_true inputs medium past step (LiesOn inputs.disk.map) some.0
-      (wanted_lies inputs rising (chosen_past inputs past (decision_in step)) (laid_chosen inputs rising past (decision_in step) laid)))),
+      (wanted_all (LiesOn inputs.disk.map) (chosen_past inputs past (decision_in step))
+      (laid_chosen inputs rising past (decision_in step) laid).1.blocks_lie))),
   steps_within inputs medium rising (past_after inputs past step) steps (laid_after inputs rising past step laid) some.1 tests.1,
 )
 

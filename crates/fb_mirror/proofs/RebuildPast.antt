@@ -7,7 +7,7 @@ use Rattle.std.proofs.lemmas.Bool.{cases_Bool, true≢false, and_parts, eqb-true
 use Rattle.std.proofs.lemmas.Option.{same_Some}
 use Rattle.fb_units.proofs.Among.{Among}
 use Rattle.fb_units.proofs.Each.{all_with, all_unmapped, list_all_each}
-use Rattle.fb_units.proofs.Lists.{all_filter, all_from_index, all_weaker}
+use Rattle.fb_units.proofs.Lists.{all_from_index, all_weaker}
 use Rattle.fb_units.proofs.Comparing.{by_is}
 use Rattle.fb_geometry.specs.Shape.{Shape}
 use Rattle.fb_geometry.specs.Places.{places}
@@ -21,17 +21,18 @@ use Rattle.fb_script.specs.Allowed.{Terms}
 use Rattle.fb_wanted.specs.declared.block.Block.{Block}
 use Rattle.fb_wanted.specs.declared.block.State.{State}
 use Rattle.fb_wanted.specs.declared.block.State.TheVariants.{Wanted, Delivered}
-use Rattle.fb_wanted.specs.States.{is_delivered, is_wanted}
+use Rattle.fb_wanted.specs.States.{is_delivered}
 use Rattle.fb_rows.specs.declared.back.DeliveryRow.{DeliveryRow}
 use Rattle.fb_model.specs.Inputs.{Inputs}
 use Rattle.fb_model.specs.Decisions.{Decision, instant_of}
 use Rattle.fb_model.specs.History.{Event, called, chose, tested, delivered, finished, Past, aborts, bare_state, blocks_of, calls_of}
-use Rattle.fb_model.specs.History.{is_open_backup, is_sealed, overwrites, registered, registers, same_block, state, state_after_event}
+use Rattle.fb_model.specs.History.{is_open_backup, is_sealed, overwrites, registered, registers, same_block, state_after_event}
 use Rattle.fb_model.specs.History.{tasks, terms_of, wanted}
 use Rattle.fb_model.specs.Completion.{is_complete, is_complete_as, is_closed, is_over, own_of, segments, work}
 use Rattle.fb_model.specs.Segments.{choose_in, choose_up_to, numbered, with_choices}
 use Rattle.fb_model.specs.Steps.{Delivery, Step, decision_in, calls_due, past_after, chosen_past, take_call}
 use Rattle.fb_mirror.specs.Script.{rebuild_calls}
+use Rattle.fb_model.proofs.Due.{wanted_all}
 use Rattle.fb_model.proofs.Cuts.{cuts_have_sectors, blocks_have_sectors}
 use Rattle.fb_model.proofs.Events.{by_step}
 
@@ -170,9 +171,7 @@ disk_some disk = blocks_have_sectors 0 1 0 (cutting disk 16 0 (length (places di
 -- what the blocks of the disk have, the wanted ones have
 pub wanted_have : (P : DeliveryRow → Type 0) (disk : Shape) (past : Past) (Q : Block → Type 0) → IsRebuilding P disk past
     → AllByRecursion Q (disk_blocks disk) → AllByRecursion Q (wanted past)
-unfolding wanted
-wanted_have P disk past Q is all =
-    all_filter Q (λ block. is_wanted (state past block)) (registered past) (subst (AllByRecursion Q) (sym (blocks_are P disk past is)) all)
+wanted_have P disk past Q is all = wanted_all Q past (subst (AllByRecursion Q) (sym (blocks_are P disk past is)) all)
 
 numbered_at : (task weight n : ℕ) (cuts : List Cut) (i : ℕ) (block : Block) → slice_get (numbered task weight n cuts) i ≡ Some block
     → (block.task ≡ task) × (block.index ≡ n + i)

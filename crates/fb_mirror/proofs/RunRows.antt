@@ -54,9 +54,11 @@ pub record IsKept (P : DeliveryRow → Type 0) (C : ℕ → Type 0) (I : ℕ →
 module _ (P : DeliveryRow → Type 0) (C : ℕ → Type 0) (I : ℕ → Past → Type 0) (R : ℕ → ℕ → Type 0) (kept : IsKept P C I R) where
   rows_have : (medium : Medium) → RowsHave medium (RowFits P C) I R
   rows_have medium = record {
-    segments = λ now past task choice holds opened. tt;
-    seals = λ now past task holds opened. kept.seals now past task holds;
-    completes = λ now past task holds opened. tt;
+    test = λ now past holds. record {
+      segments = λ task choice opened. tt;
+      seals = λ task opened. kept.seals now past task holds;
+      completes = λ task opened. tt;
+    };
     finds = λ row lbn got. tt;
     delivers = kept.delivers;
     tests = kept.tests;

@@ -6,6 +6,7 @@ use Rattle.fb_units.proofs.Lists.{all_weaker, all_append, all_filter}
 use Rattle.fb_units.proofs.Each.{all_map}
 use Rattle.fb_store.specs.Runs.{runs_of, bad_of}
 use Rattle.fb_wanted.specs.declared.block.Block.{Block}
+use Rattle.fb_wanted.specs.States.{is_wanted}
 use Rattle.fb_rows.specs.declared.gap.Dwell.{Dwell}
 use Rattle.fb_rows.specs.declared.gap.How.{How}
 use Rattle.fb_rows.specs.declared.gap.How.TheVariants.{Gap as ByGap, Idle as ByIdle, Ride as ByRide}
@@ -16,7 +17,7 @@ use Rattle.fb_model.specs.Content.{ContentsAt, Medium, contents_at}
 use Rattle.fb_model.specs.Plans.{block_begin, block_end, catches, early_dwell, late_dwell}
 use Rattle.fb_model.specs.Inputs.{Inputs}
 use Rattle.fb_model.specs.Decisions.{Act, serving, idling, ending}
-use Rattle.fb_model.specs.History.{Past, wanted}
+use Rattle.fb_model.specs.History.{Past, registered, state, wanted}
 use Rattle.fb_model.specs.Steps.{Step, decision_in, chosen_past}
 use Rattle.fb_model.specs.Deliveries.{gap_of, due, delivery_row, caught_of, caught_rows, carried_of, missed, lies_in, carried_rows}
 use Rattle.fb_model.specs.Deliveries.{begin_at, end_at}
@@ -147,6 +148,11 @@ due_true disk contents (serving served plan) Q wanted qs =
     (carried_rows contents served last) (carried_true contents served Q last last_all))
 due_true disk contents (idling dwell) Q wanted qs = caught_true disk contents ByIdle dwell Q wanted qs
 due_true disk contents (ending now) Q wanted qs = tt
+
+-- what all registered blocks have, the wanted ones have
+pub wanted_all : (Q : Block → Type 0) (past : Past) → AllByRecursion Q (registered past) → AllByRecursion Q (wanted past)
+unfolding wanted
+wanted_all Q past all = all_filter Q (λ block. is_wanted (state past block)) (registered past) all
 
 -- and so is each delivery of a sound run, of a block wanted at its decision
 pub delivery_true : (inputs : Inputs) (medium : Medium) (past : Past) (step : Step) (Q : Block → Type 0)

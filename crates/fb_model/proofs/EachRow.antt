@@ -35,14 +35,16 @@ pub any_linked : (now : ℕ) (rows : List DeliveryRow) → AreLinked AnyEnds now
 any_linked now [] = tt
 any_linked now (row ∷ rows) = (tt, any_linked row.end rows)
 
--- deliveries and tests keep what a history has at an instant, and where it has that its rows have Q
+-- each row has Q that a test at this instant can give
+pub record TestHas (medium : Medium) (Q : BackRow → Type 0) (now : ℕ) (past : Past) : Type 0 where
+  pub segments : (task : ℕ) (choice : Choice) → task < length (tasks past) → Q (segment_row now task (packed medium past choice) choice)
+  pub seals : (task : ℕ) → task < length (tasks past) → is_open_backup past task ≡ true → is_complete past task ≡ true
+      → Q (BackSeal (record { task = task; instant = now; content = image medium past task now }))
+  pub completes : (task : ℕ) → task < length (tasks past) → Q (BackComplete (record { task = task; instant = now }))
+
+-- what a history has at an instant gives Q to the rows of a test, and stays with deliveries and tests
 pub record RowsHave (medium : Medium) (Q : BackRow → Type 0) (I : ℕ → Past → Type 0) (R : ℕ → ℕ → Type 0) : Type 0 where
-  pub segments : (now : ℕ) (past : Past) (task : ℕ) (choice : Choice) → I now past → task < length (tasks past)
-      → Q (segment_row now task (packed medium past choice) choice)
-  pub seals : (now : ℕ) (past : Past) (task : ℕ) → I now past → task < length (tasks past) → is_open_backup past task ≡ true
-      → is_complete past task ≡ true → Q (BackSeal (record { task = task; instant = now; content = image medium past task now }))
-  pub completes : (now : ℕ) (past : Past) (task : ℕ) → I now past → task < length (tasks past)
-      → Q (BackComplete (record { task = task; instant = now }))
+  pub test : (now : ℕ) (past : Past) → I now past → TestHas medium Q now past
   pub finds : (row : DeliveryRow) (lbn : ℕ) → Q (BackGot row) → Q (BackBad (record { task = row.block.task; lbn = lbn }))
   pub delivers : (now : ℕ) (past : Past) (row : DeliveryRow) → I now past → Q (BackGot row) → R now row.end
       → I row.end (delivered row ∷ past)
@@ -52,24 +54,25 @@ one_if : (Q : BackRow → Type 0) (b : Bool) (row : BackRow) → (b ≡ true →
 one_if Q true row has = (has refl, tt)
 one_if Q false row has = tt
 
-module _ (medium : Medium) (Q : BackRow → Type 0) (I : ℕ → Past → Type 0) (R : ℕ → ℕ → Type 0) (have : RowsHave medium Q I R) where
-  pub tests_have : (now : ℕ) (past : Past) → I now past → AllByRecursion Q (test_rows medium past now)
+module _ (medium : Medium) (Q : BackRow → Type 0) (now : ℕ) (past : Past) (has : TestHas medium Q now past) where
+  pub tests_have : AllByRecursion Q (test_rows medium past now)
   unfolding test_rows
-  tests_have now past h =
+  tests_have =
       all_append Q (flat_map (segment_rows (packed medium past) past now) (task_numbers past))
       (flat_map (λ task. seal_rows (image medium past task now) past now task ++ complete_rows past now task) (task_numbers past))
       (all-parts Q (segment_rows (packed medium past) past now) 0 (length (tasks past)) (λ task from below.
       let opened : task < length (tasks past) = omega (arith, below) in
       all_map_any Q (λ (choice : Choice). segment_row now task (packed medium past choice) choice)
-      (λ choice. have.segments now past task choice h opened) (filter (is_newly_cleaned (work past task)) (choices past task))))
+      (λ choice. has.segments task choice opened) (filter (is_newly_cleaned (work past task)) (choices past task))))
       (all-parts Q (λ task. seal_rows (image medium past task now) past now task ++ complete_rows past now task) 0 (length (tasks past))
       (λ task from below.
       let opened : task < length (tasks past) = omega (arith, below) in
       all_append Q (seal_rows (image medium past task now) past now task) (complete_rows past now task)
       (one_if Q (is_open_backup past task && is_complete past task) _
-      (λ is. let both = and_parts (is_open_backup past task) (is_complete past task) is in have.seals now past task h opened both.0 both.1))
-      (one_if Q (is_complete past task && not (was_complete past task)) _ (λ is. have.completes now past task h opened))))
+      (λ is. let both = and_parts (is_open_backup past task) (is_complete past task) is in has.seals task opened both.0 both.1))
+      (one_if Q (is_complete past task && not (was_complete past task)) _ (λ is. has.completes task opened))))
 
+module _ (medium : Medium) (Q : BackRow → Type 0) (I : ℕ → Past → Type 0) (R : ℕ → ℕ → Type 0) (have : RowsHave medium Q I R) where
   findings_have : (past : Past) (row : DeliveryRow) → Q (BackGot row) → AllByRecursion Q (findings past row)
   findings_have past row got = by (is_scrub (terms_of past row.block.task).kind)
     where
@@ -89,7 +92,8 @@ module _ (medium : Medium) (Q : BackRow → Type 0) (I : ℕ → Past → Type 0
         gots.0,
         subst (AllByRecursion Q) (sym followed.0)
             (all_append Q (findings past d.got) (test_rows medium (delivered d.got ∷ past) d.got.end)
-            (findings_have past d.got gots.0) (tests_have d.got.end (delivered d.got ∷ past) next)),
+            (findings_have past d.got gots.0) (tests_have medium Q d.got.end (delivered d.got ∷ past)
+            (have.test d.got.end (delivered d.got ∷ past) next))),
       )
       (followed_have d.got.end (with_delivery past d) ds (have.tests d.got.end (delivered d.got ∷ past) d.after next)
       followed.1 gots.1 linked.1)
@@ -105,7 +109,7 @@ module _ (medium : Medium) (Q : BackRow → Type 0) (I : ℕ → Past → Type 0
       let now = instant_of (decision_in step) in
       all_append Q (step.test ++ opening inputs.disk step.act) (delivery_rows step.deliveries)
       (all_append Q step.test (opening inputs.disk step.act)
-      (subst (AllByRecursion Q) (sym is.test) (tests_have now chosen h)) (opened step.act))
+      (subst (AllByRecursion Q) (sym is.test) (tests_have medium Q now chosen (have.test now chosen h))) (opened step.act))
       (followed_have now (tested_past inputs past step) step.deliveries (have.tests now chosen step.test h) is.followed gots linked)
     where
       opened : (act : Act) → AllByRecursion Q (opening inputs.disk act)

@@ -6,7 +6,7 @@ use Rattle.std.specs.List.{AllByRecursion, fold, best_of}
 use Rattle.std.proofs.lemmas.Bool.{cases_Bool}
 use Rattle.std.proofs.lemmas.List.{drop_all}
 use Rattle.fb_units.proofs.Comparing.{after_is, by_later, is_after}
-use Rattle.fb_units.proofs.Lists.{all_weaker, all_append, all_filter}
+use Rattle.fb_units.proofs.Lists.{all_weaker, all_append}
 use Rattle.fb_units.proofs.Filtered.{kept_twice}
 use Rattle.fb_geometry.specs.Shape.{Shape}
 use Rattle.fb_sectormap.specs.Cutting.{cutting}
@@ -15,17 +15,17 @@ use Rattle.fb_script.specs.declared.call.Action.TheVariants.{Want}
 use Rattle.fb_script.specs.declared.call.Call.{Call}
 use Rattle.fb_script.specs.Blocks.{live_cuts}
 use Rattle.fb_script.specs.Sessions.{is_clean}
-use Rattle.fb_wanted.specs.States.{is_wanted}
 use Rattle.fb_rows.specs.declared.back.DeliveryRow.{DeliveryRow}
 use Rattle.fb_model.specs.Inputs.{Inputs}
 use Rattle.fb_model.specs.Decisions.{Decision, instant_of}
-use Rattle.fb_model.specs.History.{Event, called, chose, tested, delivered, finished, Past, terms_of, blocks_of, registered, wanted, state}
+use Rattle.fb_model.specs.History.{Event, called, chose, tested, delivered, finished, Past, terms_of, blocks_of, registered, wanted}
 use Rattle.fb_model.specs.History.{calls_of}
 use Rattle.fb_model.specs.Segments.{is_better, with_choices}
 use Rattle.fb_model.specs.Steps.{Delivery, Step, decision_in, blocks_by, take_call, calls_left, calls_due, chosen_past, past_after}
 use Rattle.fb_model.specs.Accepted.{IsRising}
 pub use Rattle.fb_model.proofs.Cuts.{HasSector}
 use Rattle.fb_model.proofs.Cuts.{cuts_have_sectors, live_have_sectors, blocks_have_sectors}
+use Rattle.fb_model.proofs.Due.{wanted_all}
 use Rattle.fb_model.proofs.Events.{ChoiceKeeps, by_choices, by_calls, by_step}
 
 -- ---- what events have
@@ -56,8 +56,7 @@ module _ (P : DeliveryRow → Type 0) where
   registered_fine (_ ∷ past) all = registered_fine past all.1
 
   pub wanted_fine : (past : Past) → AreFine P past → AllByRecursion HasSector (wanted past)
-  unfolding wanted
-  wanted_fine past all = all_filter HasSector (λ block. is_wanted (state past block)) (registered past) (registered_fine past all)
+  wanted_fine past all = wanted_all HasSector past (registered_fine past all)
 
   blocks_fine : (disk : Shape) (past : Past) (task : ℕ) (action : Action) → AllByRecursion HasSector (blocks_by disk past task action)
   blocks_fine disk past task (Want first count) = blocks_have_sectors task (terms_of past task).weight (length (blocks_of past task))

@@ -1,5 +1,5 @@
 -- Rows that say nothing of where the head is: tests of completion, findings, deliveries and tasks.
-use Rattle.std.proofs.Common.{◌≡◌, List, [], ◌∷◌, ◌++◌, map, refl, sym, subst}
+use Rattle.std.proofs.Common.{◌≡◌, ℕ, List, [], ◌∷◌, ◌++◌, map, refl, sym, subst}
 use Rattle.std.specs.List.{AllByRecursion}
 use Rattle.fb_units.proofs.Each.{all_any}
 use Rattle.fb_service.specs.declared.disk.Disk.{Disk}
@@ -14,7 +14,7 @@ use Rattle.fb_model.specs.Decisions.{instant_of}
 use Rattle.fb_model.specs.History.{Past}
 use Rattle.fb_model.specs.Steps.{Delivery, Step, decision_in, tested_past, chosen_past, task_rows, delivery_rows}
 use Rattle.fb_model.specs.SoundRun.{IsTested}
-use Rattle.fb_model.proofs.EachRow.{RowsHave, AnyEnds, any_linked, tests_have, followed_have, tasks_have}
+use Rattle.fb_model.proofs.EachRow.{TestHas, RowsHave, AnyEnds, any_linked, tests_have, followed_have, tasks_have}
 
 -- no gap row and no idle row
 abbrev pub IsQuiet : BackRow → Type 0
@@ -40,11 +40,13 @@ all_quiet disk (_ ∷ rows) fore all = all_quiet disk rows fore all.1
 
 -- ---- which rows are so
 
+test_quiet : (medium : Medium) (now : ℕ) (past : Past) → TestHas medium IsQuiet now past
+test_quiet medium now past =
+    record { segments = λ task choice opened. tt; seals = λ task opened is_open done. tt; completes = λ task opened. tt }
+
 quiet_kept : (medium : Medium) → RowsHave medium IsQuiet (λ now past. Unit {0}) AnyEnds
 quiet_kept medium = record {
-  segments = λ now past task choice any opened. tt;
-  seals = λ now past task any opened is_open done. tt;
-  completes = λ now past task any opened. tt;
+  test = λ now past any. test_quiet medium now past;
   finds = λ row lbn got. tt;
   delivers = λ now past row any got linked. tt;
   tests = λ now past rows any. tt;
@@ -62,10 +64,10 @@ pub record IsQuietStep (step : Step) : Type 0 where
 pub quiet_step : (inputs : Inputs) (medium : Medium) (past : Past) (step : Step) → IsTested inputs medium past step → IsQuietStep step
 quiet_step inputs medium past step tested =
     let now = instant_of (decision_in step) in
+    let chosen = chosen_past inputs past (decision_in step) in
     let rows = map (λ (d : Delivery). d.got) step.deliveries in
     record {
-      test = subst (AllByRecursion IsQuiet) (sym tested.test) (tests_have medium IsQuiet (λ now past. Unit {0}) AnyEnds
-          (quiet_kept medium) now (chosen_past inputs past (decision_in step)) tt);
+      test = subst (AllByRecursion IsQuiet) (sym tested.test) (tests_have medium IsQuiet now chosen (test_quiet medium now chosen));
       delivered = followed_have medium IsQuiet (λ now past. Unit {0}) AnyEnds (quiet_kept medium) now (tested_past inputs past step)
           step.deliveries tt tested.followed (all_any (λ (row : DeliveryRow). Unit {0}) (λ row. tt) rows) (any_linked now rows);
     }

@@ -2,25 +2,23 @@
 -- same.
 use Rattle.std.proofs.Common.{◌≡◌, ℕ, ◌<◌, ◌≤◌, List, [], ◌∷◌, ◌++◌, map, refl, ap, ap₂, sym, subst, ◌∙◌, arith, append_assoc, Bool, true}
 use Rattle.std.proofs.Common.{false, inl, inr, nat_le}
-use Rattle.std.specs.Prelude.{filter, ◌&&◌, not, if◌then◌else◌}
-use Rattle.std.specs.List.{AllByRecursion, flat_map}
+use Rattle.std.specs.Prelude.{filter, ◌&&◌, if◌then◌else◌}
+use Rattle.std.specs.List.{AllByRecursion}
 use Rattle.std.proofs.lemmas.Bool.{cases_Bool}
 use Rattle.fb_units.proofs.Comparing.{after_is, is_after, is_by}
-use Rattle.fb_units.proofs.Lists.{all_append, all_dropped, all_weaker, not_none, same_first, same_rest}
+use Rattle.fb_units.proofs.Lists.{all_dropped, all_weaker, not_none, same_first, same_rest}
 use Rattle.fb_units.proofs.Filtered.{none_kept}
-use Rattle.fb_units.proofs.Each.{all_any, all_flat_map, all_map}
 use Rattle.fb_units.proofs.Alike.{flat_map_same, same_map}
 use Rattle.fb_store.specs.Runs.{runs_of}
 use Rattle.fb_wanted.specs.declared.block.Block.{Block}
 use Rattle.fb_wanted.specs.States.{is_delivered}
 use Rattle.fb_rows.specs.declared.back.BackRow.{BackRow}
 use Rattle.fb_rows.specs.declared.back.BackRow.TheVariants.{Got as BackGot, Bad as BackBad, Seal as BackSeal}
-use Rattle.fb_rows.specs.declared.back.BackRow.TheVariants.{Complete as BackComplete}
 use Rattle.fb_rows.specs.declared.back.DeliveryRow.{DeliveryRow}
 use Rattle.fb_model.specs.Content.{Medium, contents_at}
 use Rattle.fb_model.specs.History.{Past, delivered, task_numbers, terms_of, blocks_of, same_block}
 use Rattle.fb_model.specs.History.{is_open_backup}
-use Rattle.fb_model.specs.Completion.{Choice, choices, work, is_complete, was_complete}
+use Rattle.fb_model.specs.Completion.{Choice, choices, work, is_complete}
 use Rattle.fb_model.specs.Images.{bad_sectors, is_scrub, findings, held_at_delivery, packed, is_newly_cleaned, segment_rows, image}
 use Rattle.fb_model.specs.Images.{segment_row, seal_rows, complete_rows, test_rows}
 use Rattle.fb_model.specs.Steps.{Delivery, with_delivery, task_row, task_rows, delivery_rows}
@@ -29,6 +27,7 @@ use Rattle.fb_model.specs.Known.{is_known, follows_known, only_if, known_from}
 use Rattle.fb_model.proofs.FullRuns.{gots}
 use Rattle.fb_model.proofs.ContentsUpTo.{HoldSame, same_contents}
 use Rattle.fb_model.proofs.HistoriesUpTo.{AreFine, HasBegun}
+use Rattle.fb_model.proofs.EachRow.{tests_have}
 
 -- ---- rows that are known
 
@@ -56,28 +55,15 @@ module _ (t : ℕ) where
   alike_behind (row ∷ rows) xs ys h =
       λ follows. ap (only_if (is_known t follows row) row) (alike_behind rows xs ys h (follows_known t follows row))
 
-  one_unknown : (b : Bool) (row : BackRow) → IsUnknown t row → AllByRecursion (IsUnknown t) (if b then row ∷ [] else [])
-  one_unknown true row h = (h, tt)
-  one_unknown false row h = tt
-
   -- a test after t
   pub tests_unknown : (medium : Medium) (past : Past) (now : ℕ) → t < now → AllByRecursion (IsUnknown t) (test_rows medium past now)
-  unfolding test_rows
   tests_unknown medium past now h =
       let late : nat_le now t ≡ false = after_is now t h in
-      all_append (IsUnknown t) (flat_map (segment_rows (packed medium past) past now) (task_numbers past))
-      (flat_map (λ task. seal_rows (image medium past task now) past now task ++ complete_rows past now task) (task_numbers past))
-      (all_flat_map (IsUnknown t) (segment_rows (packed medium past) past now) (λ task.
-      all_map (IsUnknown t) (λ (choice : Choice). segment_row now task (packed medium past choice) choice)
-      (filter (is_newly_cleaned (work past task)) (choices past task))
-      (all_any (λ (choice : Choice). (follows : Bool) → nat_le now t ≡ false) (λ choice follows. late)
-      (filter (is_newly_cleaned (work past task)) (choices past task)))) (task_numbers past))
-      (all_flat_map (IsUnknown t) (λ task. seal_rows (image medium past task now) past now task ++ complete_rows past now task) (λ task.
-      all_append (IsUnknown t) (seal_rows (image medium past task now) past now task) (complete_rows past now task)
-      (one_unknown (is_open_backup past task && is_complete past task)
-      (BackSeal (record { task = task; instant = now; content = image medium past task now })) (λ follows. late))
-      (one_unknown (is_complete past task && not (was_complete past task)) (BackComplete (record { task = task; instant = now }))
-      (λ follows. late))) (task_numbers past))
+      tests_have medium (IsUnknown t) now past (record {
+        segments = λ task choice opened follows. late;
+        seals = λ task opened is_open done follows. late;
+        completes = λ task opened follows. late;
+      })
 
   pub tasks_unknown : (past : Past) → AreUnknown t (task_rows past)
   unfolding task_rows

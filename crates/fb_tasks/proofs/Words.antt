@@ -44,7 +44,7 @@ pub use Rattle.fb_store.specs.Writes.{is_within}
 pub use Rattle.fb_store.specs.declared.content.Content.{Content}
 pub use Rattle.fb_store.specs.declared.content.Content.TheVariants.{Unreadable}
 pub use Rattle.fb_store.specs.declared.content.ContentRun.{ContentRun}
-pub use Rattle.fb_script.specs.Allowed.{AreAllowed, MayAsk, blocks_from, has_want, terms_in}
+pub use Rattle.fb_script.specs.Allowed.{AreAllowed, MayAsk, blocks_from, has_want}
 pub use Rattle.fb_script.specs.Blocks.{blocks_in, live_cuts}
 pub use Rattle.fb_script.specs.Sessions.{is_backup, is_clean}
 pub use Rattle.fb_script.specs.declared.call.Action.{Action}
