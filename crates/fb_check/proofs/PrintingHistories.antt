@@ -2,13 +2,12 @@
 use Rattle.std.proofs.Common.{◌≡◌, ℕ, zero, suc, ◌≤◌, ◌==◌, List, [], ◌∷◌, ◌++◌, Bool, true, false, inl, inr, length, length-append}
 use Rattle.std.proofs.Common.{append-nil, refl, ap, sym, ◌∙◌, subst, arith}
 use Rattle.std.specs.Prelude.{◌&&◌}
-use Rattle.std.specs.List.{AllByRecursion, best_of, slice_index_or}
+use Rattle.std.specs.List.{best_of, slice_index_or}
 use Rattle.std.proofs.Math.Bool.{or-true}
 use Rattle.std.proofs.lemmas.Bool.{cases_Bool, eqb-true, ne_eqb, or_parts, true≢false}
 use Rattle.std.proofs.lemmas.List.Elements.{filter-append}
 use Rattle.std.proofs.lemmas.List.Folds.{list_any-append}
 use Rattle.fb_units.proofs.Comparing.{same_number}
-use Rattle.fb_units.proofs.Lists.{all_append}
 use Rattle.fb_tasks.proofs.ChoiceSteps.{no_backup}
 use Rattle.fb_geometry.specs.Shape.{Shape}
 use Rattle.fb_geometry.specs.Places.{places}
@@ -26,9 +25,8 @@ use Rattle.fb_model.specs.Inputs.{Inputs}
 use Rattle.fb_model.specs.Accepted.{IsAccepted}
 use Rattle.fb_model.specs.History.{Past, calls_of, opened_by, tasks, terms_of, registered, blocks_of}
 use Rattle.fb_model.specs.Completion.{view}
-use Rattle.fb_model.specs.Segments.{numbered, next_blocks, is_better}
+use Rattle.fb_model.specs.Segments.{numbered, is_better}
 use Rattle.fb_model.specs.Steps.{blocks_by, take_call}
-use Rattle.fb_model.proofs.Cuts.{HasSector, cuts_have_sectors, live_have_sectors, blocks_have_sectors}
 use Rattle.fb_model.proofs.Events.{ChoiceKeeps}
 use Rattle.fb_model.proofs.Histories.{EventsKeep, HoldsSoFar}
 use Rattle.fb_model.proofs.Views.{index_other}
@@ -45,9 +43,8 @@ pub record IsOneRange (limit : ℕ) (wants : Bool) (blocks : List Block) : Type 
   pub few : sectors blocks ≤ limit
   pub none : wants ≡ false → blocks ≡ []
 
--- each block has a sector and is of an opened task, and a backup has those of one range
+-- each block is of an opened task, and a backup has those of one range
 pub record HoldBlocks (disk : Shape) (blocks : List Block) (tasks : List Terms) (taken : List Call) : Type 0 where
-  pub some : AllByRecursion HasSector blocks
   pub unopened : (task : ℕ) → length tasks ≤ task → own task blocks ≡ []
   pub backups : (task : ℕ) → is_backup (terms_at tasks task).kind ≡ true
       → IsOneRange (length (places disk)) (has_want taken task) (own task blocks)
@@ -79,14 +76,6 @@ module _ (disk : Shape) where
 
     abbrev IsBackup : Action → ℕ → Type 0
     IsBackup action task = is_backup (terms_at (opened_by action (tasks past)) task).kind ≡ true
-
-    some_now : (action : Action) → AllByRecursion HasSector (now action)
-    some_now (Want first count) =
-        let block = (terms_of past call.task).block in
-        all_append HasSector (registered past) (blocks_by disk past call.task (Want first count)) h.some
-        (blocks_have_sectors call.task (terms_of past call.task).weight (length (blocks_of past call.task)) (cutting disk block first count)
-        (cuts_have_sectors disk block first count))
-    some_now _ = all_append HasSector (registered past) [] h.some tt
 
     unopened_now : (action : Action) → MayAsk disk (calls_of past) call.task action → (task : ℕ)
         → length (opened_by action (tasks past)) ≤ task → own task (now action) ≡ []
@@ -168,7 +157,6 @@ module _ (disk : Shape) where
   call_holds : (past : Past) (call : Call) → MayAsk disk (calls_of past) call.task call.action → Holds disk past
       → Holds disk (take_call disk past call)
   call_holds past call may h = record {
-    some = some_now past call h call.action;
     unopened = unopened_now past call h call.action may;
     backups = backups_now past call h call.action refl may;
   }
@@ -182,8 +170,6 @@ module _ (disk : Shape) where
       let n = length (blocks_of past task) in
       let cuts = live_cuts disk terms.block best.first best.live in
       record {
-        some = all_append HasSector (registered past) (next_blocks past task cuts) h.some
-            (blocks_have_sectors task terms.weight n cuts (live_have_sectors disk terms.block best.first best.live));
         unopened = λ other beyond. elim (cases_Bool (task == other)) [
           | inl same ↦ absurd (true≢false (sym cleans ∙ ap (λ task. is_clean (terms_of past task).kind) (eqb-true task other same)
               ∙ ap is_clean (plain_beyond (tasks past) other beyond)))
@@ -214,9 +200,6 @@ HoldsOf inputs past = HoldsSoFar inputs (Holds inputs.disk.map) past
 pub at_first : (inputs : Inputs) → IsAccepted inputs → HoldsOf inputs []
 at_first inputs accepted = (
   accepted.calls,
-  record {
-    some = tt;
-    unopened = λ task beyond. refl;
-    backups = λ task backup. record { few = omega arith; none = λ none. refl };
-  },
+  tt,
+  record { unopened = λ task beyond. refl; backups = λ task backup. record { few = omega arith; none = λ none. refl } },
 )

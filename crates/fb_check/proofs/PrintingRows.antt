@@ -58,7 +58,7 @@ module _ (inputs : Inputs) where
       (λ got is_due. bytes_some medium got (due_bytes medium.disk (contents_at medium) step.act HasSector got is_due)
       (due_block medium.disk (contents_at medium) step.act HasSector got is_due))
       (due medium.disk (contents_at medium) step.act (wanted chosen))
-      (due_true medium.disk (contents_at medium) step.act HasSector (wanted chosen) (wanted_all HasSector chosen h.1.some)))
+      (due_true medium.disk (contents_at medium) step.act HasSector (wanted chosen) (wanted_all HasSector chosen h.1)))
 
   seal_counts : (past : Past) (now task : ℕ) → HoldsOf inputs past → is_open_backup past task ≡ true
       → CountsSectors (Seal (record { task = task; instant = now; content = image medium past task now }))
@@ -66,7 +66,7 @@ module _ (inputs : Inputs) where
       let is_delivered = λ (block : Block). is_delivered ((work past task).bare block) in
       let blocks = filter is_delivered (blocks_of past task) in
       let backup = and_parts (is_backup (terms_of past task).kind) (not (is_sealed past task)) is_open in
-      let few = (h.1.backups task backup.0).few in
+      let few = (h.2.backups task backup.0).few in
       omega (
         arith,
         few,

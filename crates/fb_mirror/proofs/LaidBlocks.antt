@@ -173,7 +173,7 @@ AreLaid inputs past = HoldsSoFar inputs (IsLaid inputs.disk.map) past
 
 pub laid_first : (inputs : Inputs) → IsAccepted inputs → AreLaid inputs []
 laid_first inputs accepted =
-    (accepted.calls, record { blocks_lie = tt; segments_lie = λ task. tt; unopened = λ task beyond. refl })
+    (accepted.calls, tt, record { blocks_lie = tt; segments_lie = λ task. tt; unopened = λ task beyond. refl })
 
 module _ (inputs : Inputs) (rising : IsRising (map (λ (call : Call). call.instant) inputs.calls)) where
   pub laid_chosen : (past : Past) (decision : Decision) → AreLaid inputs past → AreLaid inputs (chosen_past inputs past decision)

@@ -82,7 +82,7 @@ steps_within inputs medium rising past (step ∷ steps) laid some tests = (
       (map (λ (delivery : Delivery). delivery.got) step.deliveries)
       (delivery_true inputs medium past step (LiesOn inputs.disk.map) some.0
       (wanted_all (LiesOn inputs.disk.map) (chosen_past inputs past (decision_in step))
-      (laid_chosen inputs rising past (decision_in step) laid).1.blocks_lie))),
+      (laid_chosen inputs rising past (decision_in step) laid).2.blocks_lie))),
   steps_within inputs medium rising (past_after inputs past step) steps (laid_after inputs rising past step laid) some.1 tests.1,
 )
 

@@ -1,10 +1,11 @@
 -- What holds of the history of accepted inputs: the rules of its calls, and what each thing that can happen keeps.
 use Rattle.std.proofs.Common.{◌≡◌, ℕ, List, [], ◌∷◌, ◌++◌, length, length-append, append-nil, true, drop, refl, ap, sym, subst, ◌∙◌}
-use Rattle.std.specs.List.{fold}
+use Rattle.std.specs.List.{AllByRecursion, best_of, fold}
 use Rattle.std.proofs.lemmas.List.{drop-drop}
 use Rattle.std.proofs.lemmas.List.Concat.{flat_map-append}
 use Rattle.fb_units.specs.declared.types.Request.{Request}
 use Rattle.fb_units.proofs.Each.{all_any}
+use Rattle.fb_units.proofs.Lists.{all_append}
 use Rattle.fb_geometry.specs.Shape.{Shape}
 use Rattle.fb_script.specs.declared.call.Action.{Action}
 use Rattle.fb_script.specs.declared.call.Action.TheVariants.{Open}
@@ -16,13 +17,15 @@ use Rattle.fb_rows.specs.declared.back.BackRow.{BackRow}
 use Rattle.fb_rows.specs.declared.back.DeliveryRow.{DeliveryRow}
 use Rattle.fb_model.specs.Inputs.{Inputs}
 use Rattle.fb_model.specs.Decisions.{Decision, instant_of}
-use Rattle.fb_model.specs.History.{Past, called, tested, delivered, finished, calls_of, opened_by, tasks, terms_of}
-use Rattle.fb_model.specs.Steps.{Delivery, Step, decision_in, take_call, calls_left, calls_due, chosen_past, past_after}
-use Rattle.fb_model.proofs.HistoriesUpTo.{RiseInTime, due_first}
+use Rattle.fb_model.specs.History.{Past, called, tested, delivered, finished, calls_of, opened_by, registered, tasks, terms_of}
+use Rattle.fb_model.specs.Segments.{is_better}
+use Rattle.fb_model.specs.Steps.{Delivery, Step, decision_in, blocks_by, take_call, calls_left, calls_due, chosen_past, past_after}
+use Rattle.fb_model.proofs.HistoriesUpTo.{HasSector, RiseInTime, due_first, called_sectors, chosen_sectors}
 use Rattle.fb_model.proofs.Events.{ChoiceKeeps, by_choices, by_step}
 
 -- ---- its tasks are those that its calls open
 
+-- those before a call, and what it opens
 pub opened_more : (action : Action) (before : List Terms) → before ++ terms_in action ≡ opened_by action before
 opened_more (Open kind weight block) before = refl
 opened_more _ before = append-nil before
@@ -35,6 +38,7 @@ opened_same (_ ∷ past) = opened_same past
 
 -- ---- what each thing that can happen keeps
 
+-- whatever can happen next, it still holds
 pub record EventsKeep (disk : Shape) (P : Past → Type 0) : Type 0 where
   pub call : (past : Past) (call : Call) → MayAsk disk (calls_of past) call.task call.action → P past → P (take_call disk past call)
   pub choice : (past : Past) (task : ℕ) → is_clean (terms_of past task).kind ≡ true → ChoiceKeeps disk P task past
@@ -42,9 +46,10 @@ pub record EventsKeep (disk : Shape) (P : Past → Type 0) : Type 0 where
   pub delivery : (past : Past) (row : DeliveryRow) → P past → P (delivered row ∷ past)
   pub finish : (past : Past) (request : Request) → P past → P (finished request ∷ past)
 
--- it holds so far, and the calls that are left obey their rules
+-- it holds so far, each registered block has a sector, and the calls that are left obey their rules
 abbrev pub HoldsSoFar : Inputs → (Past → Type 0) → Past → Type 0
-HoldsSoFar inputs P past = AreAllowed inputs.disk.map (calls_of past) (calls_left inputs.calls past) × P past
+HoldsSoFar inputs P past =
+    AreAllowed inputs.disk.map (calls_of past) (calls_left inputs.calls past) × AllByRecursion HasSector (registered past) × P past
 
 module _ (inputs : Inputs) (P : Past → Type 0) (keeps : EventsKeep inputs.disk.map P) where
   calls_hold : (due rest : List Call) (past : Past) → calls_left inputs.calls past ≡ due ++ rest → HoldsSoFar inputs P past
@@ -55,8 +60,12 @@ module _ (inputs : Inputs) (P : Past → Type 0) (keeps : EventsKeep inputs.disk
       let left : calls_left inputs.calls (take_call inputs.disk.map past call) ≡ due ++ rest =
       ap (λ n. drop n inputs.calls) (length-append (calls_of past) (call ∷ []))
       ∙ (sym (drop-drop 1 (length (calls_of past)) inputs.calls) ∙ ap (drop 1) next) in
-      calls_hold due rest (take_call inputs.disk.map past call) left
-      (subst (AreAllowed inputs.disk.map (calls_of past ++ call ∷ [])) (sym left) may.2, keeps.call past call may.1 h.1)
+      let blocks = blocks_by inputs.disk.map past call.task call.action in
+      calls_hold due rest (take_call inputs.disk.map past call) left (
+        subst (AreAllowed inputs.disk.map (calls_of past ++ call ∷ [])) (sym left) may.2,
+        all_append HasSector (registered past) blocks h.1 (called_sectors inputs.disk.map past call.task call.action),
+        keeps.call past call may.1 h.2,
+      )
 
   pub chosen_holds : RiseInTime inputs.calls → (past : Past) (decision : Decision) → HoldsSoFar inputs P past
       → HoldsSoFar inputs P (chosen_past inputs past decision)
@@ -64,11 +73,14 @@ module _ (inputs : Inputs) (P : Past → Type 0) (keeps : EventsKeep inputs.disk
   chosen_holds rising past decision h =
       let due = calls_due inputs.calls past (instant_of decision) in
       let rest = due_first inputs.calls past (instant_of decision) rising in
-      by_choices (HoldsSoFar inputs P) inputs.disk.map (λ p task cleans s ss are now. (now.0, keeps.choice p task cleans s ss are now.1))
-      (fold (take_call inputs.disk.map) past due) (calls_hold due rest.0 past rest.1 h)
+      by_choices (HoldsSoFar inputs P) inputs.disk.map (λ p task cleans s ss are now. (
+        now.0,
+        all_append HasSector (registered p) _ now.1 (chosen_sectors inputs.disk.map p task (best_of is_better s ss)),
+        keeps.choice p task cleans s ss are now.2,
+      )) (fold (take_call inputs.disk.map) past due) (calls_hold due rest.0 past rest.1 h)
 
   pub after_holds : (past : Past) (step : Step) → HoldsSoFar inputs P (chosen_past inputs past (decision_in step))
       → HoldsSoFar inputs P (past_after inputs past step)
-  after_holds past step h = by_step (HoldsSoFar inputs P) (λ row. Unit {0}) (λ p rows now. (now.0, keeps.test p rows now.1))
-      (λ p row any now. (now.0, keeps.delivery p row now.1)) (λ p request now. (now.0, keeps.finish p request now.1)) inputs past step
+  after_holds past step h = by_step (HoldsSoFar inputs P) (λ row. Unit {0}) (λ p rows now. (now.0, now.1, keeps.test p rows now.2))
+      (λ p row any now. (now.0, now.1, keeps.delivery p row now.2)) (λ p request now. (now.0, now.1, keeps.finish p request now.2)) inputs past step
       (all_any (λ (d : Delivery). Unit {0}) (λ d. tt) step.deliveries) h

@@ -1,6 +1,6 @@
 -- What a history holds: blocks that were cut, and deliveries that a test can look back at.
 use Rattle.std.proofs.Common.{◌≡◌, ℕ, zero, suc, ◌<◌, ◌≤◌, List, [], ◌∷◌, ◌++◌, length, map, refl, ap, ap₂, sym, ◌∙◌, arith}
-use Rattle.std.proofs.Common.{Bool, true, inl, inr, nat_le}
+use Rattle.std.proofs.Common.{Bool, inl, inr, nat_le}
 use Rattle.std.specs.Prelude.{filter, drop}
 use Rattle.std.specs.List.{AllByRecursion, fold, best_of}
 use Rattle.std.proofs.lemmas.Bool.{cases_Bool}
@@ -14,19 +14,36 @@ use Rattle.fb_script.specs.declared.call.Action.{Action}
 use Rattle.fb_script.specs.declared.call.Action.TheVariants.{Want}
 use Rattle.fb_script.specs.declared.call.Call.{Call}
 use Rattle.fb_script.specs.Blocks.{live_cuts}
-use Rattle.fb_script.specs.Sessions.{is_clean}
 use Rattle.fb_rows.specs.declared.back.DeliveryRow.{DeliveryRow}
 use Rattle.fb_model.specs.Inputs.{Inputs}
 use Rattle.fb_model.specs.Decisions.{Decision, instant_of}
+use Rattle.fb_model.specs.History.{LogSegment}
 use Rattle.fb_model.specs.History.{Event, called, chose, tested, delivered, finished, Past, terms_of, blocks_of, registered, wanted}
 use Rattle.fb_model.specs.History.{calls_of}
-use Rattle.fb_model.specs.Segments.{is_better, with_choices}
+use Rattle.fb_model.specs.Segments.{is_better, next_blocks, with_choices}
 use Rattle.fb_model.specs.Steps.{Delivery, Step, decision_in, blocks_by, take_call, calls_left, calls_due, chosen_past, past_after}
 use Rattle.fb_model.specs.Accepted.{IsRising}
 pub use Rattle.fb_model.proofs.Cuts.{HasSector}
 use Rattle.fb_model.proofs.Cuts.{cuts_have_sectors, live_have_sectors, blocks_have_sectors}
 use Rattle.fb_model.proofs.Due.{wanted_all}
-use Rattle.fb_model.proofs.Events.{ChoiceKeeps, by_choices, by_calls, by_step}
+use Rattle.fb_model.proofs.Events.{by_choices, by_calls, by_step}
+
+-- ---- what is registered has sectors
+
+-- by a call
+pub called_sectors : (disk : Shape) (past : Past) (task : ℕ) (action : Action) → AllByRecursion HasSector (blocks_by disk past task action)
+called_sectors disk past task (Want first count) =
+    blocks_have_sectors task (terms_of past task).weight (length (blocks_of past task))
+    (cutting disk (terms_of past task).block first count) (cuts_have_sectors disk (terms_of past task).block first count)
+called_sectors disk past task _ = tt
+
+-- by the choice of a segment
+pub chosen_sectors : (disk : Shape) (past : Past) (task : ℕ) (segment : LogSegment)
+    → AllByRecursion HasSector (next_blocks past task (live_cuts disk (terms_of past task).block segment.first segment.live))
+chosen_sectors disk past task segment =
+    let block = (terms_of past task).block in
+    blocks_have_sectors task (terms_of past task).weight (length (blocks_of past task)) (live_cuts disk block segment.first segment.live)
+    (live_have_sectors disk block segment.first segment.live)
 
 -- ---- what events have
 
@@ -58,28 +75,15 @@ module _ (P : DeliveryRow → Type 0) where
   pub wanted_fine : (past : Past) → AreFine P past → AllByRecursion HasSector (wanted past)
   wanted_fine past all = wanted_all HasSector past (registered_fine past all)
 
-  blocks_fine : (disk : Shape) (past : Past) (task : ℕ) (action : Action) → AllByRecursion HasSector (blocks_by disk past task action)
-  blocks_fine disk past task (Want first count) = blocks_have_sectors task (terms_of past task).weight (length (blocks_of past task))
-      (cutting disk (terms_of past task).block first count) (cuts_have_sectors disk (terms_of past task).block first count)
-  blocks_fine disk past task _ = tt
-
-  -- a choice registers blocks that have sectors
-  choice_fine : (disk : Shape) (past : Past) (task : ℕ) → is_clean (terms_of past task).kind ≡ true → ChoiceKeeps disk (AreFine P) task past
-  choice_fine disk past task cleans segment segments are all =
-      let best = best_of is_better segment segments in
-      let cuts = live_cuts disk (terms_of past task).block best.first best.live in (
-        blocks_have_sectors task (terms_of past task).weight (length (blocks_of past task)) cuts (live_have_sectors disk
-            (terms_of past task).block best.first best.live),
-        all,
-      )
-
   pub chosen_fine : (inputs : Inputs) (past : Past) (decision : Decision) → AreFine P past → AreFine P (chosen_past inputs past decision)
   unfolding chosen_past
   chosen_fine inputs past decision all =
       let disk = inputs.disk.map in
       let due = calls_due inputs.calls past (instant_of decision) in
-      by_choices (AreFine P) disk (choice_fine disk) (fold (take_call disk) past due)
-      (by_calls (AreFine P) disk (λ past call all. (blocks_fine disk past call.task call.action, all)) due past all)
+      by_choices (AreFine P) disk
+      (λ past task cleans segment left are all. (chosen_sectors disk past task (best_of is_better segment left), all))
+      (fold (take_call disk) past due)
+      (by_calls (AreFine P) disk (λ past call all. (called_sectors disk past call.task call.action, all)) due past all)
 
   pub after_fine : (inputs : Inputs) (past : Past) (step : Step) → AllByRecursion (λ (d : Delivery). P d.got) step.deliveries
       → AreFine P past → AreFine P (past_after inputs past step)
