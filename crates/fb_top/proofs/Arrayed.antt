@@ -1,5 +1,5 @@
 -- What an array has written, and why it has its answer.
-use Rattle.std.proofs.Common.{◌≡◌, ◌≢◌, ◌∙◌, ℕ, List, [], ◌∷◌, Option, Some, None, true, length, refl, sym, ap, subst, arith, inl, inr}
+use Rattle.std.proofs.Common.{◌≡◌, ◌≢◌, ◌∙◌, ℕ, List, ◌++◌, Option, Some, None, true, length, refl, sym, ap, subst, arith, inl, inr}
 use Rattle.std.proofs.lemmas.Bool.Decides.{nat_tests}
 use Rattle.std.specs.Prelude.{slice_get}
 use Rattle.std.specs.List.{AllByRecursion}
@@ -9,20 +9,25 @@ use Rattle.fb_report.specs.Back.{back_text}
 use Rattle.fb_mirror.specs.Copy.{copy_lines}
 use Rattle.fb_mirror.specs.declared.rebuilt.Rebuilt.{Rebuilt}
 use Rattle.fb_desk.specs.View.{DeskView}
-use Rattle.fb_desk.specs.declared.desk.Input.TheVariants.{Trace, Calls, Puts, ForeReport, BackReport}
+use Rattle.fb_desk.specs.declared.desk.Input.TheVariants.{Trace}
 use Rattle.fb_desk.specs.declared.desk.Output.{Output}
 use Rattle.fb_desk.specs.declared.desk.Output.TheVariants.{Fore, Back, Copied, Note}
 use Rattle.fb_words.specs.Command.{ArrayTerms, RebuildTerms}
-use Rattle.fb_top.specs.declared.outcome.Outcome.{Outcome}
-use Rattle.fb_top.specs.declared.outcome.Outcome.TheVariants as outcomes
 use Rattle.fb_top.specs.Array.{AreRunsOf, ArrayHasCause, IsArrayCut, IsArrayed, IsRunOfDevice, array_texts, rebuild_texts, replacement}
 use Rattle.fb_top.specs.Array.{sectors_of, survivor}
-use Rattle.fb_top.specs.Causes.{RunsOut}
-use Rattle.fb_top.specs.Devices.{Array, StopsArray, is_rebuilt_from}
-use Rattle.fb_top.specs.Names.{array_names}
+use Rattle.fb_inputs.specs.Causes.{RunsOut}
+use Rattle.fb_inputs.specs.Devices.{Array, StopsArray, is_rebuilt_from}
+use Rattle.fb_streams.specs.Names.{array_names}
 use Rattle.fb_top.specs.Taken.{TakesArray}
-use Rattle.fb_top.specs.Written.{KeepsReports, StopsTexts, Text, WritesAll, joined}
-use Rattle.fb_top.proofs.Texts.{stops_texts, writes_all}
+use Rattle.fb_streams.specs.Streams.{KeepsReports}
+use Rattle.fb_inputs.specs.declared.error.InputsError.{InputsError}
+use Rattle.fb_inputs.specs.declared.error.InputsError.TheVariants as inputs
+use Rattle.fb_texts.specs.declared.error.TextsError.{TextsError}
+use Rattle.fb_texts.specs.declared.error.TextsError.TheVariants as faults
+use Rattle.fb_texts.specs.Written.{StopsTexts, Text, WritesAll, joined, one_text}
+use Rattle.fb_top.specs.Ends.{unwritten, unread}
+use Rattle.fb_texts.proofs.Texts.{IsApart, stops_texts, writes_all}
+use Rattle.fb_inputs.proofs.Account.{ends_at}
 
 -- what holds of the outputs of a rebuild holds of the texts that it asks for
 all_rebuild : (P : Output → Type 0) (terms : ArrayTerms) (array : Array) (rebuild : Option RebuildTerms) (run : Option Run) → P Back
@@ -32,16 +37,23 @@ all_rebuild P terms array (Some rebuild) None back copied = tt
 all_rebuild P terms array None (Some run) back copied = tt
 all_rebuild P terms array None None back copied = tt
 
-pub rebuild_apart : (terms : ArrayTerms) (array : Array) (runs : List Run)
-    → AllByRecursion (λ text. Fore ≢ text.output) (rebuild_texts terms array terms.rebuild (survivor terms.rebuild runs))
-rebuild_apart terms array runs =
-    all_rebuild (λ output. Fore ≢ output) terms array terms.rebuild (survivor terms.rebuild runs) (λ e. cc) (λ e. cc)
+pub rebuild_no_note : (terms : ArrayTerms) (array : Array) (runs : List Run)
+    → AllByRecursion (λ text. text.output ≢ Note) (rebuild_texts terms array terms.rebuild (survivor terms.rebuild runs))
+rebuild_no_note terms array runs =
+    all_rebuild (λ output. output ≢ Note) terms array terms.rebuild (survivor terms.rebuild runs) (λ e. cc) (λ e. cc)
+
+-- the text of the sections has an output of its own
+pub sections_apart : (terms : ArrayTerms) (array : Array) (runs : List Run) (name text : List ℕ)
+    → AllByRecursion (IsApart (rebuild_texts terms array terms.rebuild (survivor terms.rebuild runs))) (one_text Fore name text)
+sections_apart terms array runs name text = (
+  ((λ e. cc), all_rebuild (λ output. Fore ≢ output) terms array terms.rebuild (survivor terms.rebuild runs) (λ e. cc) (λ e. cc)),
+  tt,
+)
 
 -- no text of an array is the note
 pub texts_no_note : (terms : ArrayTerms) (array : Array) (runs : List Run)
     → AllByRecursion (λ text. text.output ≢ Note) (array_texts terms array runs)
-texts_no_note terms array runs =
-    (λ e. cc, all_rebuild (λ output. output ≢ Note) terms array terms.rebuild (survivor terms.rebuild runs) (λ e. cc) (λ e. cc))
+texts_no_note terms array runs = ((λ e. cc), rebuild_no_note terms array runs)
 
 -- the first desk keeps the reports of one before it, and one after the second keeps those of the second
 module _ (terms : ArrayTerms) (old mid late new : DeskView) (runs : List Run) (are_runs : AreRunsOf old terms runs)
@@ -54,29 +66,26 @@ module _ (terms : ArrayTerms) (old mid late new : DeskView) (runs : List Run) (a
     texts = writes_all old mid late new first last (array_texts terms are_runs.array runs) (texts_no_note terms are_runs.array runs) wrote;
   }
 
-  pub array_cut : (outcome : Outcome) → StopsTexts (array_texts terms are_runs.array runs) mid late outcome
-      → IsArrayCut old new terms outcome
-  array_cut outcome h = record {
+  pub array_cut : (error : TextsError) → StopsTexts (array_texts terms are_runs.array runs) mid late error
+      → IsArrayCut old new terms error
+  array_cut error h = record {
     runs = runs;
     are_runs = are_runs;
     stops =
-        stops_texts old mid late new first last (array_texts terms are_runs.array runs) (texts_no_note terms are_runs.array runs) outcome h;
+        stops_texts old mid late new first last (array_texts terms are_runs.array runs) (texts_no_note terms are_runs.array runs) error h;
   }
 
   -- why the texts were not written
-  pub at_texts : (outcome : Outcome) → StopsTexts (array_texts terms are_runs.array runs) mid late outcome
-      → ArrayHasCause terms old new outcome
-  at_texts (outcomes.WriteFault output) h = array_cut (outcomes.WriteFault output) h
-  at_texts outcomes.NoMemory h = inr (array_cut outcomes.NoMemory h)
-  at_texts _ h = absurd h
+  pub at_texts : (error : TextsError) → StopsTexts (array_texts terms are_runs.array runs) mid late error
+      → ArrayHasCause terms old new (unwritten error)
+  at_texts (faults.WriteFault output) h = array_cut (faults.WriteFault output) h
+  at_texts faults.NoMemory h = inr (array_cut faults.NoMemory h)
 
 -- why the inputs were not accepted
-pub array_stopped : (terms : ArrayTerms) (old new : DeskView) (outcome : Outcome) → StopsArray terms old new outcome
-    → ArrayHasCause terms old new outcome
-array_stopped terms old new outcomes.NoMemory h = inl h
-array_stopped terms old new (outcomes.Arrayed runs copy) h = absurd h
-array_stopped terms old new (outcomes.WriteFault output) h = absurd h
-array_stopped terms old new _ h = h
+pub array_stopped : (terms : ArrayTerms) (old new : DeskView) (error : InputsError) → StopsArray terms old new error
+    → ArrayHasCause terms old new (unread error)
+array_stopped terms old new inputs.NoMemory h = inl h
+array_stopped terms old new error h = (error, refl, h)
 
 -- memory ran out after the files were read
 pub ran_out : {terms : ArrayTerms} {array : Array} {old new : DeskView} → TakesArray terms array old new
@@ -84,10 +93,7 @@ pub ran_out : {terms : ArrayTerms} {array : Array} {old new : DeskView} → Take
 ran_out {array = array} takes = record {
   input = Trace;
   before = record { disk = array.disk; latent = array.latent; reads_disk = takes.accepts.disk };
-  ends = record {
-    later = (takes.unnamed Calls refl, takes.unnamed Puts refl, takes.unnamed ForeReport refl, takes.unnamed BackReport refl);
-    reports = λ output no_note. takes.outputs output;
-  };
+  ends = ends_at takes.account;
 }
 
 -- the runs of files that were taken
@@ -102,30 +108,19 @@ one_copy one other e = cc
 
 -- what is told of a rebuild is what its texts are
 module _ (terms : ArrayTerms) (array : Array) (rebuild : RebuildTerms) (run : Run) (sectors : ℕ) (are : sectors ≡ sectors_of array) where
-  abbrev told : Rebuilt → List Text
-  told copy =
-      record { output = Back; name = rebuild.back; text = back_text array.script.names array.disk.sector_bytes terms.bytes run }
-      ∷ record { output = Copied; name = rebuild.copy; text = joined (copy_lines copy sectors) }
-      ∷ []
+  abbrev told : ℕ → Rebuilt → List Text
+  told n copy =
+      one_text Back rebuild.back (back_text array.script.names array.disk.sector_bytes terms.bytes run)
+      ++ one_text Copied rebuild.copy (joined (copy_lines copy n))
 
   pub rebuild_told : (given : Option RebuildTerms) (there : Option Run) (copy : Rebuilt) → given ≡ Some rebuild → there ≡ Some run
       → Some copy ≡ option_map (replacement (sectors_of array)) there
-      → told copy ≡ rebuild_texts terms array given there
+      → told sectors copy ≡ rebuild_texts terms array given there
   rebuild_told given there copy is at made =
-      subst (λ (r : Option RebuildTerms). told copy ≡ rebuild_texts terms array r there) (sym is)
+      subst (λ (r : Option RebuildTerms). told sectors copy ≡ rebuild_texts terms array r there) (sym is)
       (subst (λ (o : Option Run). Some copy ≡ option_map (replacement (sectors_of array)) o
-      → told copy ≡ rebuild_texts terms array (Some rebuild) o) (sym at) (λ same.
-      ap (λ n. record {
-        output = Back;
-        name = rebuild.back;
-        text = back_text array.script.names array.disk.sector_bytes terms.bytes run;
-      } ∷ record { output = Copied; name = rebuild.copy; text = joined (copy_lines copy n) } ∷ []) are
-      ∙ ap (λ c. record {
-        output = Back;
-        name = rebuild.back;
-        text = back_text array.script.names array.disk.sector_bytes terms.bytes run;
-      } ∷ record { output = Copied; name = rebuild.copy; text = joined (copy_lines c (sectors_of array)) } ∷ [])
-      (one_copy copy (replacement (sectors_of array) run) same)) made)
+      → told sectors copy ≡ rebuild_texts terms array (Some rebuild) o) (sym at) (λ same.
+      ap (λ n. told n copy) are ∙ ap (told (sectors_of array)) (one_copy copy (replacement (sectors_of array) run) same)) made)
 
 -- the rebuild is made from its device
 pub is_from : (given : Option RebuildTerms) (rebuild : RebuildTerms) → given ≡ Some rebuild → is_rebuilt_from given rebuild.device ≡ true

@@ -1,6 +1,6 @@
 -- A replay that goes well is made.
 use Rattle.std.proofs.Common.{◌≡◌, ℕ, ◌<◌, ◌≤◌, ◌^◌, List, length, Option, Some, None, true, refl, sym, ap, subst, ◌∙◌, arith, Result, Ok}
-use Rattle.std.proofs.Common.{Err, ◌⊎◌, inl, inr}
+use Rattle.std.proofs.Common.{Err, ◌⊎◌, ◌≢◌, inl, inr}
 use Rattle.std.specs.Prelude.{IfSome, is_some}
 use Rattle.fb_geometry.specs.Shape.{Shape}
 use Rattle.fb_geometry.specs.Places.{places}
@@ -11,14 +11,13 @@ use Rattle.fb_trace.specs.declared.trace.TraceFault.{TraceFault}
 use Rattle.fb_trace.specs.Reading.{trace_of}
 use Rattle.fb_trace.specs.Devices.{traces_of}
 use Rattle.fb_calls.specs.declared.fault.CallsFault.{CallsFault}
-use Rattle.fb_calls.specs.Reading.{calls_of}
+use Rattle.fb_calls.specs.Reading.{calls_of, Accepted as Script}
 use Rattle.fb_mirror.specs.Script.{rebuild_text}
 use Rattle.fb_desk.specs.View.{DeskView}
 use Rattle.fb_desk.specs.declared.desk.Input.{Input}
 use Rattle.fb_desk.specs.declared.desk.Input.TheVariants.{Params, Trace, Calls, Puts, ForeReport, BackReport}
-use Rattle.fb_desk.specs.declared.desk.Output.TheVariants.{Fore, Back, Spill, MadeTrace, MadeCalls}
 use Rattle.fb_words.specs.Command.{Terms, ReplayTerms, CheckTerms, MakeTerms, ArrayTerms, RebuildTerms, replays, makes, checks, arrays}
-use Rattle.fb_top.specs.Names.{InputNames, replay_names, check_names, array_names}
+use Rattle.fb_streams.specs.Names.{InputNames, replay_names, check_names, array_names}
 use Rattle.fb_words.specs.declared.fault.UsageFault.{UsageFault}
 use Rattle.fb_top.specs.declared.outcome.Outcome.{Outcome}
 use Rattle.fb_top.specs.declared.outcome.Outcome.TheVariants as outcomes
@@ -26,21 +25,29 @@ use Rattle.fb_report.specs.Grammar.{Grammar, fore_grammar, back_grammar, report_
 use Rattle.fb_puts.specs.Asked.{asked}
 use Rattle.fb_puts.specs.Reading.{puts_of}
 use Rattle.fb_puts.specs.declared.fault.PutsFault.{PutsFault}
-use Rattle.fb_calls.specs.Reading.{Accepted as Script}
-use Rattle.fb_top.specs.Read.{ReadsDisk, RefusesDisk, RefusesReport, ReadsCalls, ReadsScript, puts_terms}
-use Rattle.fb_top.specs.Streams.{IsLonger}
-use Rattle.fb_top.specs.Done.{IsCutShort}
-use Rattle.fb_top.specs.Spilled.{IsSpillCut}
-use Rattle.fb_top.specs.Causes.{AcceptsDisk, AcceptsTrace, CheckHasCause, HasCause, IsCut, IsTooLong, RefusesTraceInTurn}
-use Rattle.fb_top.specs.Causes.{RefusesCallsInTurn, RefusesPutsInTurn, RefusesReportInTurn, StopsInputs}
+use Rattle.fb_inputs.specs.Read.{ReadsDisk, RefusesDisk, RefusesReport, ReadsCalls, ReadsScript, puts_terms}
+use Rattle.fb_streams.specs.Streams.{IsLonger}
+use Rattle.fb_top.specs.Spilled.{IsCut, replay_texts}
+use Rattle.fb_inputs.specs.Causes.{AcceptsDisk, AcceptsTrace, IsTooLong, RefusesTraceInTurn}
+use Rattle.fb_top.specs.Causes.{CheckHasCause, HasCause}
+use Rattle.fb_inputs.specs.Causes.{RefusesCallsInTurn, RefusesPutsInTurn, RefusesReportInTurn, StopsInputs}
 use Rattle.fb_top.specs.Answers.{AnswersWords}
-use Rattle.fb_top.specs.Make.{MakeHasCause, MakeGoesWell, MakesAll}
-use Rattle.fb_top.specs.Devices.{ReadsRebuild, RefusesDeviceInTurn, RefusesRebuild, RefusesRebuildInTurn}
+use Rattle.fb_top.specs.Make.{MakeHasCause, MakeGoesWell, MakesAll, make_texts}
+use Rattle.fb_inputs.specs.Devices.{ReadsRebuild, RefusesDeviceInTurn, RefusesRebuild, RefusesRebuildInTurn, StopsArray}
 use Rattle.fb_top.specs.Array.{ArrayGoesWell, ArrayHasCause, IsReplayed, array_texts}
 use Rattle.fb_top.specs.Complete.{CheckGoesWell, GoesWell, IsComplete, IsJudged, IsMade, ReadsWell, TellsPuts, TellsReport}
+use Rattle.fb_inputs.specs.declared.error.InputsError.{InputsError}
+use Rattle.fb_inputs.specs.declared.error.InputsError.TheVariants as inputs
+use Rattle.fb_top.specs.Ends.{IsUnaccepted, unread}
 use Rattle.fb_top.proofs.Arrayed.{texts_no_note}
-use Rattle.fb_top.proofs.Texts.{cut_is_no_note}
-use Rattle.fb_top.proofs.Unnamed.{is_named}
+use Rattle.fb_texts.proofs.Texts.{cut_among}
+use Rattle.fb_texts.specs.Written.{OutputFaultsRose}
+use Rattle.fb_texts.specs.declared.error.TextsError.TheVariants as faults
+use Rattle.fb_desk.specs.declared.desk.Output.{Output}
+use Rattle.fb_desk.specs.declared.desk.Output.TheVariants.{Note}
+use Rattle.fb_top.specs.Checked.{check_texts}
+use Rattle.fb_top.proofs.Spills.{all_replay}
+use Rattle.fb_inputs.proofs.Account.{is_named}
 
 -- the bytes under a name are told once
 same_bytes : (told : Option (List ℕ)) (one two : List ℕ) → is_some told ≡ true → IfSome told (λ held. one ≡ held)
@@ -209,53 +216,42 @@ module _ (old new : DeskView) (terms : InputNames) (well : ReadsWell old new ter
       (2 ^ 28) tells.told tells.reads.held tells.reads.within long.longer
 
   -- no input stops what goes well, but memory may
-  pub goes_on : (outcome : Outcome) → StopsInputs terms old new outcome → outcome ≡ outcomes.NoMemory
-  goes_on (outcomes.Params fault) cause = absurd (disk_once fault cause.0)
-  goes_on (outcomes.Trace fault) cause = absurd (trace_once fault cause.0)
-  goes_on (outcomes.Calls fault) cause = absurd (calls_once fault cause.0)
-  goes_on (outcomes.Puts fault) cause = absurd (puts_once fault cause.0)
-  goes_on (outcomes.Reports fault) cause = absurd (reports_once fault.input fault.line cause.0.report cause.0)
-  goes_on (outcomes.TooLong input) cause = absurd (not_too_long input cause.0)
-  goes_on (outcomes.ReadFault input) cause = absurd (well.calm input cause.0.rose)
-  goes_on outcomes.NoMemory cause = refl
-  goes_on _ cause = absurd cause
+  pub goes_on : (error : InputsError) → StopsInputs terms old new error → error ≡ inputs.NoMemory
+  goes_on (inputs.Params fault) cause = absurd (disk_once fault cause.0)
+  goes_on (inputs.Trace fault) cause = absurd (trace_once fault cause.0)
+  goes_on (inputs.Calls fault) cause = absurd (calls_once fault cause.0)
+  goes_on (inputs.Puts fault) cause = absurd (puts_once fault cause.0)
+  goes_on (inputs.Reports fault) cause = absurd (reports_once fault.input fault.line cause.0.report cause.0)
+  goes_on (inputs.TooLong input) cause = absurd (not_too_long input cause.0)
+  goes_on (inputs.ReadFault input) cause = absurd (well.calm input cause.0.rose)
+  goes_on inputs.NoMemory cause = refl
 
 module _ (old new : DeskView) (terms : ReplayTerms) (well : GoesWell old new terms) where
-  not_cut_short : (outcome : Outcome) → IsCutShort old new terms outcome → IsMade outcome
-  not_cut_short (outcomes.WriteFault Fore) cut = absurd (well.fore cut.stops.0)
-  not_cut_short (outcomes.WriteFault Back) cut = absurd (well.back cut.stops.0)
-  not_cut_short outcomes.NoMemory cut = tt
-  not_cut_short (outcomes.Done run) cut = tt
-  not_cut_short _ cut = absurd cut.stops
+  not_cut : (output : Output) → IsCut old new terms (faults.WriteFault output) → ⊥
+  not_cut output cut =
+      let texts = replay_texts terms cut.is_run.files cut.run cut.spill in
+      let calm = all_replay (λ which. OutputFaultsRose old new which → ⊥) terms cut.is_run.files cut.run cut.spill well.fore well.back
+      well.spill in
+      cut_among (λ which. OutputFaultsRose old new which → ⊥) texts output calm cut.stops.1 cut.stops.0
 
-  no_spill_cut : (outcome : Outcome) → IsSpillCut old new terms outcome → IsMade outcome
-  no_spill_cut (outcomes.WriteFault Spill) cut = absurd (well.spill cut.stops.0)
-  no_spill_cut outcomes.NoMemory cut = tt
-  no_spill_cut (outcomes.Done run) cut = tt
-  no_spill_cut (outcomes.Spilled run spill) cut = tt
-  no_spill_cut _ cut = absurd cut.stops
-
-  not_cut : (outcome : Outcome) → IsCut old new terms outcome → IsMade outcome
-  not_cut outcome (inl cut) = not_cut_short outcome cut
-  not_cut outcome (inr cut) = no_spill_cut outcome cut
-
-  stopped : (outcome : Outcome) → StopsInputs (replay_names terms) old new outcome → IsMade outcome
-  stopped outcome cause = subst IsMade (sym (goes_on old new (replay_names terms) well.inputs outcome cause)) tt
+  stopped : (outcome : Outcome) → IsUnaccepted (StopsInputs (replay_names terms) old new) outcome → IsMade outcome
+  stopped outcome h = subst IsMade (sym (h.1 ∙ ap unread (goes_on old new (replay_names terms) well.inputs h.0 h.2))) tt
 
   made : (outcome : Outcome) → HasCause terms old new outcome → IsMade outcome
   made (outcomes.Done run) cause = tt
   made (outcomes.Spilled ran spilled) cause = tt
-  made (outcomes.WriteFault output) cause = not_cut (outcomes.WriteFault output) cause
+  made (outcomes.WriteFault output) cause = absurd (not_cut output cause)
   made outcomes.NoMemory cause = tt
   made outcome cause = stopped outcome cause
 
 module _ (old new : DeskView) (terms : CheckTerms) (well : CheckGoesWell old new terms) where
-  check_stopped : (outcome : Outcome) → StopsInputs (check_names terms) old new outcome → IsJudged outcome
-  check_stopped outcome cause = subst IsJudged (sym (goes_on old new (check_names terms) well.inputs outcome cause)) tt
+  check_stopped : (outcome : Outcome) → IsUnaccepted (StopsInputs (check_names terms) old new) outcome → IsJudged outcome
+  check_stopped outcome h = subst IsJudged (sym (h.1 ∙ ap unread (goes_on old new (check_names terms) well.inputs h.0 h.2))) tt
 
   judged : (outcome : Outcome) → CheckHasCause terms old new outcome → IsJudged outcome
   judged (outcomes.Checked verdict) cause = tt
-  judged (outcomes.WriteFault output) cause = absurd (well.fore cause.stops.1)
+  judged (outcomes.WriteFault output) cause = absurd (cut_among (λ which. OutputFaultsRose old new which → ⊥) (check_texts cause.verdict)
+      output (well.fore, tt) cause.stops.1 cause.stops.0)
   judged outcomes.NoMemory cause = tt
   judged outcome cause = check_stopped outcome cause
 
@@ -268,8 +264,9 @@ made_texts old new terms (outcomes.TooLong Params) cause well =
     not_longer (old.held terms.params) well.makes.reads_disk.bytes
     (2 ^ 20) well.params_told well.makes.reads_disk.held well.makes.reads_disk.within cause.0
 made_texts old new terms (outcomes.ReadFault Params) cause well = well.params cause.0
-made_texts old new terms (outcomes.WriteFault MadeTrace) cause well = absurd (well.trace cause.0)
-made_texts old new terms (outcomes.WriteFault MadeCalls) cause well = absurd (well.calls cause.0)
+made_texts old new terms (outcomes.WriteFault output) cause well =
+    absurd (cut_among (λ which. OutputFaultsRose old new which → ⊥) (make_texts terms cause.makes.disk) output
+    (well.trace, (well.calls, tt)) cause.stops.1 cause.stops.0)
 made_texts old new terms outcomes.NoMemory cause well = tt
 made_texts old new terms _ cause well = absurd cause
 
@@ -317,21 +314,27 @@ module _ (old new : DeskView) (terms : ArrayTerms) (well : ArrayGoesWell old new
   no_report (_) line (inl is) turn = cc
   no_report (_) line (inr is) turn = cc
 
+  array_goes_on : (error : InputsError) → StopsArray terms old new error → error ≡ inputs.NoMemory
+  array_goes_on (inputs.Params fault) cause =
+      absurd (not_refused old terms.params well.array.disk well.array.latent well.params_told well.accepts.disk fault cause.0)
+  array_goes_on (inputs.Trace fault) cause = absurd (devices_once fault cause.0)
+  array_goes_on (inputs.Calls fault) cause = absurd (rebuilds_once fault cause.0)
+  array_goes_on (inputs.Puts fault) cause = absurd (is_named cause.0.name (sym cause.0.given))
+  array_goes_on (inputs.Reports fault) cause = absurd (no_report fault.input fault.line cause.0.report cause.0)
+  array_goes_on (inputs.TooLong input) cause = absurd (array_not_too_long input cause.0)
+  array_goes_on (inputs.ReadFault input) cause = absurd (well.inputs input cause.0.rose)
+  array_goes_on inputs.NoMemory cause = refl
+
+  array_unaccepted : (outcome : Outcome) → IsUnaccepted (StopsArray terms old new) outcome → IsReplayed outcome
+  array_unaccepted outcome h = subst IsReplayed (sym (h.1 ∙ ap unread (array_goes_on h.0 h.2))) tt
+
   replayed : (outcome : Outcome) → ArrayHasCause terms old new outcome → IsReplayed outcome
   replayed (outcomes.Arrayed runs copy) cause = tt
-  replayed (outcomes.Puts fault) cause = absurd (is_named cause.0.name (sym cause.0.given))
-  replayed (outcomes.Params fault) cause =
-      absurd (not_refused old terms.params well.array.disk well.array.latent well.params_told well.accepts.disk fault cause.0)
-  replayed (outcomes.Trace fault) cause = absurd (devices_once fault cause.0)
-  replayed (outcomes.Calls fault) cause = absurd (rebuilds_once fault cause.0)
-  replayed (outcomes.Reports fault) cause = absurd (no_report fault.input fault.line cause.0.report cause.0)
-  replayed (outcomes.TooLong input) cause = absurd (array_not_too_long input cause.0)
-  replayed (outcomes.ReadFault input) cause = absurd (well.inputs input cause.0.rose)
   replayed (outcomes.WriteFault output) cause =
-      absurd (well.outputs output (cut_is_no_note output (array_texts terms cause.are_runs.array cause.runs) old new
+      absurd (well.outputs output (cut_among (λ which. which ≢ Note) (array_texts terms cause.are_runs.array cause.runs) output
       (texts_no_note terms cause.are_runs.array cause.runs) cause.stops.1) cause.stops.0)
   replayed outcomes.NoMemory cause = tt
-  replayed _ cause = absurd cause
+  replayed outcome cause = array_unaccepted outcome cause
 
 -- an answer with its cause is complete
 pub complete : (reading : Result Terms UsageFault) (old new : DeskView) (outcome : Outcome) → AnswersWords reading old new outcome

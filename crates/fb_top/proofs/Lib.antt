@@ -1,23 +1,8 @@
-pub mod Pieces
-pub mod Called
-pub mod Fronts
-pub mod Counted
 pub mod SameText
-pub mod Moved
-pub mod Each
-pub mod Values
-pub mod Sections
-pub mod Texts
-pub mod Later
-pub mod DeviceInputs
 pub mod Arrayed
-pub mod Rebuilding
-pub mod Reports
 pub mod Making
 pub mod Notes
 pub mod Completeness
-pub mod Unnamed
-pub mod MoreInputs
 pub mod RunGaps
 pub mod Untouching
 pub mod Together
@@ -25,7 +10,8 @@ pub mod Readable
 pub mod Spills
 pub mod OneRun
 pub mod OneSection
-pub mod Opened
 pub mod Printed
 mod Checking
 mod RightReports
+pub mod Ends
+pub mod Noted

@@ -11,8 +11,8 @@ use Rattle.fb_params.specs.Reading.{params_of}
 use Rattle.fb_trace.specs.Reading.{Accepted, trace_of}
 use Rattle.fb_calls.specs.Reading.{Accepted as Script, calls_of}
 use Rattle.fb_desk.specs.View.{DeskView}
-use Rattle.fb_top.specs.Names.{FileNames}
-use Rattle.fb_top.specs.Read.{Accepts, Files, ReadsDisk, ReadsTrace, ReadsScript}
+use Rattle.fb_streams.specs.Names.{FileNames}
+use Rattle.fb_inputs.specs.Read.{Accepts, Files, ReadsDisk, ReadsTrace, ReadsScript}
 use Rattle.fb_top.specs.Untouched.{HoldAlike, HoldFilesAlike}
 use Rattle.fb_top.proofs.Completeness.{same_ok}
 

@@ -22,11 +22,11 @@ use Rattle.fb_mirror.specs.Script.{disk_blocks, rebuild_calls, rebuild_text}
 use Rattle.fb_mirror.proofs.ScriptRead.{script_read}
 use Rattle.fb_desk.specs.View.{DeskView}
 use Rattle.fb_words.specs.Command.{RebuildTerms}
-use Rattle.fb_top.specs.Read.{ReadsTrace}
-use Rattle.fb_top.specs.Devices.{Array, ReadsRebuild, ReadsTraces, device_files}
+use Rattle.fb_inputs.specs.Read.{ReadsTrace}
+use Rattle.fb_inputs.specs.Devices.{Array, ReadsRebuild, ReadsTraces, device_files}
 use Rattle.fb_top.proofs.Arrayed.{is_from}
-use Rattle.fb_top.proofs.Each.{counted}
-use Rattle.fb_top.proofs.Values.{each_of_all}
+use Rattle.fb_texts.proofs.Each.{counted}
+use Rattle.fb_inputs.proofs.Values.{each_of_all}
 
 -- the trace of a device is what is read for it alone
 module _ (desk : DeskView) (name : List ℕ) (devices : ℕ) (disk : Disk) (traces : List Accepted)

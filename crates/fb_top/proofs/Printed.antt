@@ -1,7 +1,7 @@
 -- Reports that a replay printed, and that a check reads.
 use Rattle.std.proofs.Common.{◌≡◌, ◌⊎◌, ℕ, List, length, Option, Some, None, true, refl, sym, ap, subst, ◌∙◌, inl, inr}
 use Rattle.std.proofs.lemmas.List.Folds.{flat_map-map}
-use Rattle.std.specs.Prelude.{IfSome, codes, is_some}
+use Rattle.std.specs.Prelude.{IfSome, is_some}
 use Rattle.fb_service.specs.declared.disk.Disk.{Disk}
 use Rattle.fb_rows.specs.declared.run.Run.{Run}
 use Rattle.fb_calls.specs.Reading.{Accepted as Script}
@@ -10,32 +10,37 @@ use Rattle.fb_report.specs.Printed.{IsReadBack}
 use Rattle.fb_check.specs.declared.verdict.Verdict.{Verdict}
 use Rattle.fb_check.specs.declared.verdict.Verdict.TheVariants.{Yes}
 use Rattle.fb_desk.specs.View.{DeskView, OutputView}
-use Rattle.fb_desk.specs.declared.desk.Output.TheVariants.{Fore, Back}
+use Rattle.fb_desk.specs.declared.desk.Output.TheVariants.{Spill}
 use Rattle.fb_words.specs.Command.{CheckTerms, ReplayTerms}
 use Rattle.fb_top.specs.declared.outcome.Outcome.{Outcome}
 use Rattle.fb_top.specs.declared.outcome.Outcome.TheVariants as outcomes
 use Rattle.fb_top.specs.Causes.{CheckHasCause}
 use Rattle.fb_top.specs.Checked.{IsVerdictOf}
 use Rattle.fb_top.specs.Complete.{IsJudged, TellsReport}
-use Rattle.fb_top.specs.Done.{AreReadBack, HoldsGiven, IsRunOf, back_told, fore_told}
-use Rattle.fb_top.specs.Read.{Accepts, Files, ReadsScript}
-use Rattle.fb_top.specs.Names.{FileNames}
-use Rattle.fb_top.specs.Streams.{IsHeld, ReadsAs}
+use Rattle.fb_top.specs.Done.{AreReadBack, IsRunOf, report_texts}
+use Rattle.fb_top.specs.Spilled.{spill_told}
+use Rattle.fb_units.proofs.Lists.{all_left}
+use Rattle.fb_inputs.specs.Read.{Accepts, Files, ReadsScript}
+use Rattle.fb_streams.specs.Names.{FileNames}
+use Rattle.fb_streams.specs.Streams.{IsHeld, ReadsAs}
 use Rattle.fb_top.specs.Untouched.{HasReplayed, HoldAlike, HoldFilesAlike, HoldsLines, HoldsWritten}
-use Rattle.fb_top.specs.Written.{HoldsWhole, joined}
+use Rattle.fb_texts.specs.Written.{HoldsTexts, HoldsWhole, given_text, joined}
 use Rattle.fb_top.proofs.OneRun.{held_here}
 
 -- what a replay has printed, without puts or with them
 pub record Prints (old new : DeskView) (terms : ReplayTerms) (run : Run) : Type 0 where
   pub is_run : IsRunOf old terms run
-  pub fore : HoldsWhole (new.outputs Fore) (codes "-") (fore_told terms is_run.files run)
-  pub back : HoldsGiven terms.back (back_told terms is_run.files run) (old.outputs Back) (new.outputs Back)
+  pub reports : HoldsTexts (report_texts terms is_run.files run) new
   pub read : AreReadBack terms is_run.files run
 
 pub prints : (old new : DeskView) (terms : ReplayTerms) (run : Run) → HasReplayed old new terms run → Prints old new terms run
-prints old new terms run (inl done) = record { is_run = done.is_run; fore = done.reports.fore; back = done.reports.back; read = done.read }
-prints old new terms run (inr h) =
-    record { is_run = h.1.is_run; fore = h.1.texts.reports.fore; back = h.1.texts.reports.back; read = h.1.read }
+prints old new terms run (inl done) = record { is_run = done.is_run; reports = done.texts.whole; read = done.read }
+prints old new terms run (inr h) = record {
+  is_run = h.1.is_run;
+  reports = all_left (λ text. HoldsWhole (new.outputs text.output) text.name text.text) (report_texts terms h.1.is_run.files run)
+      (given_text Spill terms.spill (spill_told terms h.1.is_run.files h.0)) h.1.texts.whole;
+  read = h.1.read;
+}
 
 -- a text that is read back, that was written to an output and is held under a name
 module _ (output : OutputView) (desk : DeskView) (name under : List ℕ) (grammar : Grammar) (lines : List (List ℕ))

@@ -8,7 +8,7 @@ use Rattle.fb_check.proofs.PrintingNames.{scripts_name}
 use Rattle.fb_check.proofs.PrintingRows.{can_be_printed}
 use Rattle.fb_desk.specs.View.{DeskView}
 use Rattle.fb_words.specs.Command.{ReplayTerms}
-use Rattle.fb_top.specs.Read.{ReadsScript, inputs_of_files, key_of}
+use Rattle.fb_inputs.specs.Read.{ReadsScript, inputs_of_files, key_of}
 use Rattle.fb_top.specs.Done.{CanBeRead, IsRunOf}
 
 named : (desk : DeskView) (given : Option (List ℕ)) (disk : Disk) (traced : ℕ) (script : Script) → ReadsScript desk given disk traced script

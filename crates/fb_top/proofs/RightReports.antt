@@ -13,9 +13,9 @@ use Rattle.fb_check.specs.Verdict.{HasBackLines, HasForeLines, IsVerdict, IsWron
 use Rattle.fb_check.specs.declared.verdict.Mismatch.{Mismatch}
 use Rattle.fb_check.specs.declared.verdict.Verdict.{Verdict}
 use Rattle.fb_check.specs.declared.verdict.Verdict.TheVariants.{Yes, No}
-use Rattle.fb_top.specs.Read.{ReadsReport}
+use Rattle.fb_inputs.specs.Read.{ReadsReport}
 use Rattle.fb_top.specs.Untouched.{HoldsLines}
-use Rattle.fb_top.specs.Written.{joined}
+use Rattle.fb_texts.specs.Written.{joined}
 use Rattle.fb_top.proofs.Completeness.{same_ok}
 use Rattle.fb_top.proofs.OneRun.{held_here}
 

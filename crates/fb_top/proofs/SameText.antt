@@ -6,7 +6,7 @@ use Rattle.fb_rows.specs.declared.run.Run.{Run}
 use Rattle.fb_report.specs.declared.bytes.Bytes.{Bytes}
 use Rattle.fb_report.specs.Fore.{fore_first, fore_line, fore_lines, fore_text}
 use Rattle.fb_report.specs.Lines.{line_of}
-use Rattle.fb_top.specs.Written.{joined}
+use Rattle.fb_texts.specs.Written.{joined}
 
 -- the lines of these rows
 unfoldable lines_by : ℕ → Bytes → List ForeRow → ℕ → List (List ℕ)

@@ -5,7 +5,7 @@ use Rattle.fb_words.specs.Command.{Terms, replays, makes, checks, arrays}
 use Rattle.fb_words.specs.declared.fault.UsageFault.{UsageFault}
 use Rattle.fb_top.specs.declared.outcome.Outcome.{Outcome}
 use Rattle.fb_top.specs.declared.outcome.Outcome.TheVariants as outcomes
-use Rattle.fb_top.specs.Written.{KeepsReports}
+use Rattle.fb_streams.specs.Streams.{KeepsReports}
 use Rattle.fb_top.specs.Causes.{HasCause, CheckHasCause}
 use Rattle.fb_top.specs.Make.{MakeHasCause}
 use Rattle.fb_top.specs.Array.{ArrayHasCause}

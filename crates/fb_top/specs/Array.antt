@@ -1,6 +1,5 @@
 -- What the replay of an array has written, and why.
-use Rattle.std.specs.Prelude.{◌≡◌, ◌≢◌, ◌⊎◌, ℕ, ◌+◌, ◌≤◌, ◌^◌, List, [], ◌∷◌, ◌++◌, length, decimal, codes, slice_get, Option, Some}
-use Rattle.std.specs.Prelude.{option_and_then, true, is_some}
+use Rattle.std.specs.Prelude.{◌≡◌, ◌≢◌, ◌⊎◌, ℕ, List, [], ◌++◌, length, codes, slice_get, Option, Some, option_and_then, true, is_some}
 use Rattle.std.specs.Option.{option_map}
 use Rattle.std.specs.String.{string_bytes}
 use Rattle.fb_geometry.specs.Places.{places}
@@ -9,9 +8,7 @@ use Rattle.fb_rows.specs.declared.run.Run.{Run}
 use Rattle.fb_trace.specs.Reading.{Accepted}
 use Rattle.fb_model.specs.Accepted.{IsAccepted}
 use Rattle.fb_model.specs.FullRun.{IsFull}
-use Rattle.fb_report.specs.declared.bytes.Bytes.{Bytes}
 use Rattle.fb_report.specs.Back.{back_lines, back_text}
-use Rattle.fb_report.specs.Fore.{fore_lines}
 use Rattle.fb_mirror.specs.Copy.{copy_lines}
 use Rattle.fb_mirror.specs.Replacement.{contents_after, covered_after, events, sealed_in}
 use Rattle.fb_mirror.specs.declared.rebuilt.Rebuilt.{Rebuilt}
@@ -21,43 +18,18 @@ use Rattle.fb_desk.specs.declared.desk.Output.{Output}
 use Rattle.fb_desk.specs.declared.desk.Output.TheVariants.{Fore, Back, Copied, Note}
 use Rattle.fb_words.specs.Command.{ArrayTerms, RebuildTerms}
 use Rattle.fb_words.specs.declared.command.RebuildWords.{RebuildWords}
-use Rattle.fb_top.specs.declared.lines.BackLines.{BackLines}
-use Rattle.fb_top.specs.declared.array_text.CopyLines.{CopyLines}
+use Rattle.fb_texts.specs.declared.lines.BackLines.{BackLines}
+use Rattle.fb_texts.specs.declared.array_text.CopyLines.{CopyLines}
 use Rattle.fb_top.specs.declared.outcome.Outcome.{Outcome}
 use Rattle.fb_top.specs.declared.outcome.Outcome.TheVariants as outcomes
-use Rattle.fb_top.specs.Names.{array_names}
-use Rattle.fb_top.specs.Devices.{Array, AcceptsArray, StopsArray, device_inputs}
-use Rattle.fb_top.specs.Written.{OutputFaultsRose, StopsTexts, Text, WritesAll, joined}
-use Rattle.fb_top.specs.Causes.{FaultsRose, RunsOut}
-
--- the first line of the text
-abbrev pub array_first : List ℕ
-array_first = codes "freeblock array 1\n"
-
--- the line over the section of a device
-abbrev pub device_line : ℕ → List ℕ
-device_line device = codes "device " ++ decimal device ++ 10 ∷ []
-
--- the last line, which tells how many devices there are
-abbrev pub array_last : ℕ → List ℕ
-array_last devices = codes "end " ++ decimal devices ++ 10 ∷ []
-
--- the section of a device: a line that names it, and the lines of its foreground report
-abbrev pub section : ℕ → Bytes → ℕ → Run → List (List ℕ)
-section size bytes device run = device_line device ∷ fore_lines size bytes run
-
--- the sections of the devices from this one on, whose runs these are
-abbrev pub sections : ℕ → Bytes → ℕ → List Run → List (List ℕ)
-sections size bytes device [] = []
-sections size bytes device (run ∷ runs) = section size bytes device run ++ sections size bytes (device + 1) runs
-
--- the first line, the sections of all devices, and the last line
-unfoldable pub array_lines : ℕ → Bytes → List Run → List (List ℕ)
-array_lines size bytes runs = array_first ∷ (sections size bytes 0 runs ++ array_last (length runs) ∷ [])
-
--- a run whose foreground a report can show: it has at most a million rows
-abbrev pub CanTellFore : Run → Type 0
-CanTellFore run = length run.fore ≤ 10 ^ 6
+use Rattle.fb_streams.specs.Names.{array_names}
+use Rattle.fb_inputs.specs.Devices.{Array, AcceptsArray, StopsArray, device_inputs}
+use Rattle.fb_texts.specs.declared.error.TextsError.{TextsError}
+use Rattle.fb_texts.specs.declared.error.TextsError.TheVariants as faults
+use Rattle.fb_texts.specs.Sections.{array_lines}
+use Rattle.fb_texts.specs.Written.{OutputFaultsRose, StopsTexts, Text, WritesAll, joined, one_text}
+use Rattle.fb_inputs.specs.Causes.{FaultsRose, RunsOut}
+use Rattle.fb_top.specs.Ends.{IsUnaccepted}
 
 -- the full run of a device
 pub record IsRunOfDevice (terms : ArrayTerms) (array : Array) (device : ℕ) (run : Run) : Type 0 where
@@ -90,27 +62,21 @@ replacement sectors run =
 -- what is written of a rebuild: the background report of its run, and then the text of the replacement
 abbrev pub rebuild_texts : ArrayTerms → Array → Option RebuildTerms → Option Run → List Text
 rebuild_texts terms array (Some rebuild) (Some run) =
-    record { output = Back; name = rebuild.back; text = back_text array.script.names array.disk.sector_bytes terms.bytes run }
-    ∷ record { output = Copied; name = rebuild.copy; text = joined (copy_lines (replacement (sectors_of array) run) (sectors_of array)) }
-    ∷ []
+    one_text Back rebuild.back (back_text array.script.names array.disk.sector_bytes terms.bytes run)
+    ++ one_text Copied rebuild.copy (joined (copy_lines (replacement (sectors_of array) run) (sectors_of array)))
 rebuild_texts terms array _ _ = []
 
 -- the same texts, by their lines
 abbrev pub copy_texts : RebuildWords → BackLines → CopyLines → List Text
 copy_texts words back copy =
-    record {
-      output = Back;
-      name = string_bytes words.back;
-      text = joined (back_lines back.names.now back.sector_bytes back.bytes back.run.now);
-    }
-    ∷ record { output = Copied; name = string_bytes words.copy; text = joined (copy_lines copy.copy.now copy.sectors) }
-    ∷ []
+    one_text Back (string_bytes words.back) (joined (back_lines back.names.now back.sector_bytes back.bytes back.run.now))
+    ++ one_text Copied (string_bytes words.copy) (joined (copy_lines copy.copy.now copy.sectors))
 
 -- what is written of an array, in this order: the sections of all devices, and then what the rebuild asks for
 abbrev pub array_texts : ArrayTerms → Array → List Run → List Text
 array_texts terms array runs =
-    record { output = Fore; name = codes "-"; text = joined (array_lines array.disk.sector_bytes terms.bytes runs) }
-    ∷ rebuild_texts terms array terms.rebuild (survivor terms.rebuild runs)
+    one_text Fore (codes "-") (joined (array_lines array.disk.sector_bytes terms.bytes runs))
+    ++ rebuild_texts terms array terms.rebuild (survivor terms.rebuild runs)
 
 -- the runs are those of the accepted files, the copy is that of its device's run, and all texts are written
 pub record IsArrayed (old new : DeskView) (terms : ArrayTerms) (runs : List Run) (copy : Option Rebuilt) : Type 0 where
@@ -119,17 +85,17 @@ pub record IsArrayed (old new : DeskView) (terms : ArrayTerms) (runs : List Run)
   pub texts : WritesAll (array_texts terms are_runs.array runs) old new
 
 -- there are such runs, and their texts were not all written
-pub record IsArrayCut (old new : DeskView) (terms : ArrayTerms) (outcome : Outcome) : Type 0 where
+pub record IsArrayCut (old new : DeskView) (terms : ArrayTerms) (error : TextsError) : Type 0 where
   pub runs : List Run
   pub are_runs : AreRunsOf old terms runs
-  pub stops : StopsTexts (array_texts terms are_runs.array runs) old new outcome
+  pub stops : StopsTexts (array_texts terms are_runs.array runs) old new error
 
 -- the cause of each answer to the terms of an array
 abbrev pub ArrayHasCause : ArrayTerms → DeskView → DeskView → Outcome → Type 0
 ArrayHasCause terms old new (outcomes.Arrayed runs copy) = IsArrayed old new terms runs copy
-ArrayHasCause terms old new (outcomes.WriteFault output) = IsArrayCut old new terms (outcomes.WriteFault output)
-ArrayHasCause terms old new outcomes.NoMemory = RunsOut old new (array_names terms) ⊎ IsArrayCut old new terms outcomes.NoMemory
-ArrayHasCause terms old new outcome = StopsArray terms old new outcome
+ArrayHasCause terms old new (outcomes.WriteFault output) = IsArrayCut old new terms (faults.WriteFault output)
+ArrayHasCause terms old new outcomes.NoMemory = RunsOut old new (array_names terms) ⊎ IsArrayCut old new terms faults.NoMemory
+ArrayHasCause terms old new outcome = IsUnaccepted (StopsArray terms old new) outcome
 
 -- the desk tells what the files hold, they are accepted with the script of the rebuild, and no count of faults rises but perhaps the note's
 pub record ArrayGoesWell (old new : DeskView) (terms : ArrayTerms) : Type 0 where

@@ -9,10 +9,10 @@ use Rattle.fb_words.specs.Command.{Terms, ReplayTerms, CheckTerms, replays, make
 use Rattle.fb_words.specs.declared.fault.UsageFault.{UsageFault}
 use Rattle.fb_top.specs.declared.outcome.Outcome.{Outcome}
 use Rattle.fb_top.specs.declared.outcome.Outcome.TheVariants as outcomes
-use Rattle.fb_top.specs.Names.{InputNames, replay_names, check_names}
-use Rattle.fb_top.specs.Read.{Files, Accepts, ReadsPuts, ReadsReport}
-use Rattle.fb_top.specs.Written.{OutputFaultsRose}
-use Rattle.fb_top.specs.Causes.{FaultsRose}
+use Rattle.fb_streams.specs.Names.{InputNames, replay_names, check_names}
+use Rattle.fb_inputs.specs.Read.{Files, Accepts, ReadsPuts, ReadsReport}
+use Rattle.fb_texts.specs.Written.{OutputFaultsRose}
+use Rattle.fb_inputs.specs.Causes.{FaultsRose}
 use Rattle.fb_top.specs.Make.{MakeGoesWell, MakesAll}
 use Rattle.fb_top.specs.Array.{ArrayGoesWell, IsReplayed}
 

@@ -11,7 +11,7 @@ use Rattle.fb_mirror.specs.declared.rebuilt.Rebuilt.{Rebuilt}
 use Rattle.fb_desk.specs.View.{DeskView}
 use Rattle.fb_words.specs.Command.{ArrayTerms, RebuildTerms}
 use Rattle.fb_top.specs.Array.{IsArrayed}
-use Rattle.fb_top.specs.Devices.{device_inputs}
+use Rattle.fb_inputs.specs.Devices.{device_inputs}
 
 -- the copy holds what the events of the run gave it; each sector that it got is the disk's, at the run's end and whenever no write is under
 -- way; once the rebuild is sealed, that is every sector

@@ -4,7 +4,7 @@ use Rattle.fb_desk.specs.Calls.{Rose}
 use Rattle.fb_desk.specs.View.{OutputView}
 use Rattle.fb_top.specs.declared.outcome.Outcome.{Outcome}
 use Rattle.fb_top.specs.declared.outcome.Outcome.TheVariants as outcomes
-use Rattle.fb_top.specs.Streams.{IsFront}
+use Rattle.fb_streams.specs.Streams.{IsFront}
 use Rattle.fb_top.specs.Notes.{note_of}
 
 -- the whole line; nothing, where memory ran out; or a front of it, where the count of faults rose

@@ -22,7 +22,7 @@ use Rattle.fb_desk.specs.declared.desk.Output.{Output}
 use Rattle.fb_desk.specs.declared.desk.Output.TheVariants as outputs
 use Rattle.fb_top.specs.declared.outcome.Outcome.{Outcome}
 use Rattle.fb_top.specs.declared.outcome.Outcome.TheVariants as outcomes
-use Rattle.fb_top.specs.Checked.{report_word}
+use Rattle.fb_top.specs.Verdicts.{report_word}
 
 -- a reason's name and, after a space, the value that it carries
 abbrev pub valued : List ℕ → List ℕ → List ℕ

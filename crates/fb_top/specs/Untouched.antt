@@ -20,16 +20,18 @@ use Rattle.fb_desk.specs.declared.desk.Output.TheVariants.{Back, Fore}
 use Rattle.fb_words.specs.Command.{ArrayTerms, CheckTerms, ReplayTerms}
 use Rattle.fb_top.specs.declared.outcome.Outcome.{Outcome}
 use Rattle.fb_top.specs.declared.outcome.Outcome.TheVariants.{Checked, NoMemory}
-use Rattle.fb_top.specs.Causes.{CheckHasCause, FaultsRose}
+use Rattle.fb_top.specs.Causes.{CheckHasCause}
+use Rattle.fb_inputs.specs.Causes.{FaultsRose}
 use Rattle.fb_top.specs.Checked.{IsVerdictOf}
 use Rattle.fb_top.specs.Complete.{TellsReport}
-use Rattle.fb_top.specs.Names.{FileNames, check_file_names, replay_file_names}
-use Rattle.fb_top.specs.Limits.{report_limit}
-use Rattle.fb_top.specs.Read.{Files, inputs_of_files, key_of}
-use Rattle.fb_top.specs.Array.{AreRunsOf, device_line, section}
+use Rattle.fb_streams.specs.Names.{FileNames, check_file_names, replay_file_names}
+use Rattle.fb_inputs.specs.Limits.{report_limit}
+use Rattle.fb_inputs.specs.Read.{Files, inputs_of_files, key_of}
+use Rattle.fb_top.specs.Array.{AreRunsOf}
+use Rattle.fb_texts.specs.Sections.{device_line, section}
 use Rattle.fb_top.specs.Done.{IsDone, IsRunOf, fore_told}
 use Rattle.fb_top.specs.Spilled.{IsSpilled}
-use Rattle.fb_top.specs.Written.{OutputFaultsRose, joined}
+use Rattle.fb_texts.specs.Written.{OutputFaultsRose, joined}
 
 -- the same disk, latent sectors and trace, and scripts that ask for the same reads
 pub record AskForOneForeground (one other : Files) : Type 0 where

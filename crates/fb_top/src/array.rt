@@ -1,5 +1,5 @@
 // The command that replays a trace on several devices, and rebuilds a lost disk from one of them.
-ghost use Rattle.std.specs.Prelude.{◌≡◌, ◌%◌, ◌^◌, ◌<◌, ◌≤◌, ℕ, Some, true, false, length, slice_get, IfErr, IfOk, IfSome, OnOk};
+ghost use Rattle.std.specs.Prelude.{◌≡◌, ◌%◌, ◌^◌, ◌<◌, ◌≤◌, ℕ, Some, true, false, length, slice_get, IfOk, IfSome};
 ghost use Rattle.std.specs.List.{AllByRecursion};
 ghost use Rattle.std.specs.Option.{option_map};
 ghost use Rattle.std.specs.String.{string_bytes};
@@ -11,27 +11,25 @@ ghost use Rattle.fb_trace.specs.Reading.{Accepted};
 ghost use Rattle.fb_words.specs.Command.{arrays};
 ghost use Rattle.fb_words.specs.Limits.{IsWithinLimits};
 ghost use Rattle.fb_words.specs.Verdict.{array_terms};
-ghost use Rattle.fb_top.specs.Array.{ArrayHasCause, CanTellFore, IsRunOfDevice, array_texts, copy_texts, replacement, sectors_of, survivor};
-ghost use Rattle.fb_top.specs.Devices.{array_of, device_inputs, is_rebuilt_from};
+ghost use Rattle.fb_top.specs.Array.{ArrayHasCause, IsRunOfDevice, array_texts, copy_texts, replacement, sectors_of, survivor};
+ghost use Rattle.fb_texts.specs.Sections.{CanTellFore};
+ghost use Rattle.fb_inputs.specs.Devices.{array_of, device_inputs, is_rebuilt_from};
 ghost use Rattle.fb_top.specs.Done.{CanBeTold};
-ghost use Rattle.fb_top.specs.Opened.{OpensAsNamed};
-ghost use Rattle.fb_top.specs.Names.{array_names};
 ghost use Rattle.fb_top.specs.Taken.{TakesArray};
-ghost use Rattle.fb_top.specs.Unnamed.{KeepsInputs, KeepsUnnamed};
-ghost use Rattle.fb_top.specs.Written.{StopsTexts, WritesAll};
-ghost use Rattle.fb_top.specs.Called.{Asked, Ends, EndsAs, array_asks};
+ghost use Rattle.fb_inputs.specs.Account.{AreReadAs, KeepsInputs};
+ghost use Rattle.fb_texts.specs.Ends.{failed_output};
+ghost use Rattle.fb_texts.specs.Written.{WritesTexts};
+ghost use Rattle.fb_streams.specs.Called.{Asked, array_asks, Ends};
+ghost use Rattle.fb_top.specs.Ends.{EndsAs};
 
-use crate::array_text::{ArrayLines, CopyLines};
-use crate::devices::{ArrayFiles, read_array};
-use crate::lines::BackLines;
-use crate::policy::replay_by;
-use crate::reading::no_calls;
-use crate::writing::write_lines;
 use crate::{Outcome, Runs};
+use crate::policy::replay_by;
 use fb_decide::RunInputs;
 use fb_desk::{Desk, Output};
+use fb_inputs::{ArrayFiles, no_calls, read_array};
 use fb_mirror::{Rebuilt, rebuild, runs_lie_on_the_disk};
 use fb_script::Calls;
+use fb_texts::{ArrayLines, BackLines, CopyLines, TextsError, write_lines};
 use fb_units::NoMemory;
 use fb_words::{ArrayWords, RebuildWords};
 use std::alloc::Global;
@@ -42,14 +40,13 @@ pub fn run_array<D: Desk>(alloc: Global, desk: &mut D, words: &ArrayWords) -> Ou
     requires unused { IsUnused (D.seen desk.old) }
     requires limits { IsWithinLimits (arrays (array_terms words.now)) }
     ensures cause { ArrayHasCause (array_terms words.now) (D.seen desk.old) (D.seen desk.new) result }
-    ensures unnamed { KeepsUnnamed (array_names (array_terms words.now)) (D.seen desk.old) (D.seen desk.new) }
-    ensures opened { OpensAsNamed (array_names (array_terms words.now)) (D.seen desk.old) (D.seen desk.new) }
+    ensures inputs { AreReadAs (array_asks (array_terms words.now)).inputs (D.seen desk.old) (D.seen desk.new) }
     ensures calls { EndsAs (array_asks (array_terms words.now)) result (D.seen desk.old).calls (D.seen desk.new).calls }
     ensures no_note { (D.seen desk.new).outputs Output.Note ≡ (D.seen desk.old).outputs Output.Note }
 {
     match read_array(alloc, desk, words) {
         Ok(files) => replay_array(alloc, desk, words, &files),
-        Err(outcome) => outcome,
+        Err(error) => Outcome::from(error),
     }
 }
 
@@ -82,7 +79,7 @@ fn replay_array<D: Desk>(
     };
     match write_array(alloc, desk, words, files, &runs, copy.as_ref()) {
         Ok(()) => Outcome::Arrayed { runs, copy },
-        Err(outcome) => outcome,
+        Err(error) => Outcome::from(error),
     }
 }
 
@@ -158,7 +155,7 @@ fn copy_survivor(
 
 // Writes the sections of all devices, and then what the rebuild asks for, if there is one.
 //
-// The error is the outcome: a call that writes failed, or memory ran out.
+// The error comes where a call that writes failed, or memory ran out.
 fn write_array<D: Desk>(
     alloc: Global,
     desk: &mut D,
@@ -166,7 +163,7 @@ fn write_array<D: Desk>(
     files: &ArrayFiles,
     runs: &Runs,
     copy: Option<&Rebuilt>,
-) -> Result<(), Outcome>
+) -> Result<(), TextsError>
     requires fresh { (output : Output) → ((D.seen desk.old).outputs output).begun ≡ false }
     requires few { length runs.now ≤ 16 }
     requires told { AllByRecursion CanTellFore runs.now }
@@ -177,11 +174,9 @@ fn write_array<D: Desk>(
         ≡ option_map (replacement (sectors_of (array_of files.now))) (survivor (array_terms words.now).rebuild runs.now) }
     requires copy_told { IfSome copy
         (λ copy. (copy.now.covered ≤ sectors_of (array_of files.now)) × (length copy.now.content ≤ sectors_of (array_of files.now))) }
-    ensures whole { OnOk result
-        (WritesAll (array_texts (array_terms words.now) (array_of files.now) runs.now) (D.seen desk.old) (D.seen desk.new)) }
-    ensures stops { IfErr result
-        (StopsTexts (array_texts (array_terms words.now) (array_of files.now) runs.now) (D.seen desk.old) (D.seen desk.new)) }
-    ensures calls { Ends (array_asks (array_terms words.now)) result (D.seen desk.old).calls (D.seen desk.new).calls }
+    ensures texts { WritesTexts (array_texts (array_terms words.now) (array_of files.now) runs.now)
+        (D.seen desk.old) (D.seen desk.new) result }
+    ensures calls { Ends failed_output (array_asks (array_terms words.now)) result (D.seen desk.old).calls (D.seen desk.new).calls }
     ensures no_note { (D.seen desk.new).outputs Output.Note ≡ (D.seen desk.old).outputs Output.Note }
     ensures inputs { KeepsInputs (D.seen desk.old) (D.seen desk.new) }
 {
@@ -192,10 +187,7 @@ fn write_array<D: Desk>(
         sector_bytes,
         bytes,
     };
-    match write_lines(alloc, desk, Output::Fore, "-", &lines) {
-        Ok(()) => {}
-        Err(outcome) => return Err(outcome),
-    }
+    write_lines(alloc, desk, Output::Fore, "-", &lines)?;
     match (&words.rebuild, copy) {
         (Some(rebuild), Some(copy)) => {
             let back = BackLines {
@@ -214,31 +206,27 @@ fn write_array<D: Desk>(
 // Writes the background report of the device that a rebuild is made from, and then the text of the
 // replacement, each under its name.
 //
-// The error is the outcome: a call that writes failed, or memory ran out.
+// The error comes where a call that writes failed, or memory ran out.
 fn write_rebuild<D: Desk>(
     alloc: Global,
     desk: &mut D,
     words: &RebuildWords,
     back: &BackLines<'_>,
     copy: &CopyLines<'_>,
-) -> Result<(), Outcome>
+) -> Result<(), TextsError>
     requires fresh_back { ((D.seen desk.old).outputs Output.Back).begun ≡ false }
     requires fresh_copy { ((D.seen desk.old).outputs Output.Copied).begun ≡ false }
     requires size { back.now.sector_bytes % 16 ≡ 0 }
     requires back_told { CanBeTold back.now.names.now back.now.run.now }
     requires most { copy.now.copy.now.covered ≤ copy.now.sectors }
     requires few { length copy.now.copy.now.content ≤ 10 ^ 12 }
-    ensures whole { OnOk result (WritesAll (copy_texts words.now back.now copy.now) (D.seen desk.old) (D.seen desk.new)) }
-    ensures stops { IfErr result (StopsTexts (copy_texts words.now back.now copy.now) (D.seen desk.old) (D.seen desk.new)) }
+    ensures texts { WritesTexts (copy_texts words.now back.now copy.now) (D.seen desk.old) (D.seen desk.new) result }
     ensures calls { (asked : Asked) → asked.outputs Output.Back ≡ Some (string_bytes words.now.back)
         → asked.outputs Output.Copied ≡ Some (string_bytes words.now.copy)
-        → Ends asked result (D.seen desk.old).calls (D.seen desk.new).calls }
+        → Ends failed_output asked result (D.seen desk.old).calls (D.seen desk.new).calls }
     ensures no_note { (D.seen desk.new).outputs Output.Note ≡ (D.seen desk.old).outputs Output.Note }
     ensures inputs { KeepsInputs (D.seen desk.old) (D.seen desk.new) }
 {
-    match write_lines(alloc, desk, Output::Back, words.back.as_str(), back) {
-        Ok(()) => {}
-        Err(outcome) => return Err(outcome),
-    }
+    write_lines(alloc, desk, Output::Back, words.back.as_str(), back)?;
     write_lines(alloc, desk, Output::Copied, words.copy.as_str(), copy)
 }

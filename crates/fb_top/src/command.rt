@@ -6,17 +6,17 @@ ghost use Rattle.fb_words.specs.Command.{command_of};
 ghost use Rattle.fb_top.specs.Answers.{AnswersWords};
 ghost use Rattle.fb_top.specs.Complete.{IsComplete};
 ghost use Rattle.fb_top.specs.Noted.{LeavesNote};
-ghost use Rattle.fb_top.specs.Unnamed.{LeavesUnnamed};
-ghost use Rattle.fb_top.specs.Opened.{OpensNamed};
+ghost use Rattle.fb_inputs.specs.Account.{AreReadAs};
 ghost use Rattle.fb_top.specs.Ended.{EndsWith};
-ghost use Rattle.fb_top.specs.Called.{EndsAs, EndsWithNote, asked_by};
+ghost use Rattle.fb_top.specs.Ends.{EndsAs, EndsWithNote};
+ghost use Rattle.fb_streams.specs.Called.{asked_by};
 
+use crate::{Outcome, status};
 use crate::array::run_array;
 use crate::check::run_check;
 use crate::make::run_make;
+use crate::noting::write_note;
 use crate::replay::run_replay;
-use crate::writing::write_note;
-use crate::{Outcome, status};
 use fb_desk::{Desk, Output};
 use fb_words::{Command, WordsError, read_words};
 use std::alloc::Global;
@@ -49,8 +49,7 @@ pub fn run_command<D: Desk>(alloc: Global, desk: &mut D, words: &[String]) -> Ou
     requires { IsUnused (D.seen desk.old) }
     ensures answers { AnswersWords (command_of (map string_bytes words.now)) (D.seen desk.old) (D.seen desk.new) result }
     ensures complete { IsComplete (command_of (map string_bytes words.now)) (D.seen desk.old) (D.seen desk.new) result }
-    ensures unnamed { LeavesUnnamed (command_of (map string_bytes words.now)) (D.seen desk.old) (D.seen desk.new) }
-    ensures opened { OpensNamed (command_of (map string_bytes words.now)) (D.seen desk.old) (D.seen desk.new) }
+    ensures inputs { AreReadAs (asked_by (command_of (map string_bytes words.now))).inputs (D.seen desk.old) (D.seen desk.new) }
     ensures calls { EndsWithNote (asked_by (command_of (map string_bytes words.now))) result
         (D.seen desk.old).calls (D.seen desk.new).calls }
     ensures note { LeavesNote result ((D.seen desk.old).outputs Output.Note) ((D.seen desk.new).outputs Output.Note) }
@@ -73,8 +72,7 @@ pub fn run<D: Desk>(alloc: Global, desk: &mut D, words: &[String]) -> u8
 fn answer_words<D: Desk>(alloc: Global, desk: &mut D, words: &[String]) -> Outcome
     requires { IsUnused (D.seen desk.old) }
     ensures answers { AnswersWords (command_of (map string_bytes words.now)) (D.seen desk.old) (D.seen desk.new) result }
-    ensures unnamed { LeavesUnnamed (command_of (map string_bytes words.now)) (D.seen desk.old) (D.seen desk.new) }
-    ensures opened { OpensNamed (command_of (map string_bytes words.now)) (D.seen desk.old) (D.seen desk.new) }
+    ensures inputs { AreReadAs (asked_by (command_of (map string_bytes words.now))).inputs (D.seen desk.old) (D.seen desk.new) }
     ensures calls { EndsAs (asked_by (command_of (map string_bytes words.now))) result
         (D.seen desk.old).calls (D.seen desk.new).calls }
     ensures no_note { (D.seen desk.new).outputs Output.Note ≡ (D.seen desk.old).outputs Output.Note }

@@ -13,31 +13,24 @@
 #![tactic(auto)]
 
 mod array;
-mod array_text;
 mod check;
 mod command;
-mod devices;
-mod lines;
 mod make;
 mod note;
 mod note_faults;
 mod note_words;
+mod noting;
 mod outcome;
 mod policy;
-mod puts;
-mod reading;
 mod replay;
-mod replay_inputs;
 mod report;
-mod spill_text;
-mod streams;
 mod untouched;
-mod verdict_line;
-mod writing;
+mod verdicts;
 
 pub use command::{run, run_command};
+pub use fb_texts::Runs;
 pub use note::note_text;
-pub use outcome::{Outcome, Runs, status};
+pub use outcome::{Outcome, status};
 pub use untouched::{
     copies_are_the_survivors, inputs_have_one_run, printed_reports_are_right,
     right_reports_are_right, runs_are_made, runs_look_not_ahead, scripts_leave_the_foreground,

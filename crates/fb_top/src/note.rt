@@ -6,9 +6,9 @@ use crate::Outcome;
 use crate::note_faults::{
     push_calls_fault, push_params_fault, push_puts_fault, push_trace_fault, push_usage_fault,
 };
-use crate::note_words::{push_number, push_words};
-use crate::verdict_line::push_report;
+use crate::verdicts::push_report;
 use fb_desk::{Input, Output};
+use fb_texts::{push_number, push_words};
 use fb_units::NoMemory;
 use std::alloc::Global;
 

@@ -4,13 +4,14 @@ ghost use Rattle.fb_top.specs.Notes.{numbered, usage_reason, trace_reason, calls
 ghost use Rattle.fb_top.specs.Notes.{params_fault};
 
 use crate::note_words::{
-    push_numbered, push_with_key, push_with_number, push_with_place, push_with_track, push_words,
+    push_numbered, push_with_key, push_with_number, push_with_place, push_with_track,
 };
 use fb_calls::{CallsFault, CallsReason};
 use fb_geometry::GeometryFault;
 use fb_params::ParamsFault;
 use fb_puts::{PutsFault, PutsReason};
 use fb_seek::SeekFault;
+use fb_texts::push_words;
 use fb_trace::{TraceFault, TraceReason};
 use fb_units::NoMemory;
 use fb_words::{UsageFault, UsageReason};

@@ -1,27 +1,10 @@
-// Words and values in a note.
+// Values in a note.
 ghost use Rattle.std.specs.Prelude.{◌≡◌, ◌++◌, decimal, OnOk};
 ghost use Rattle.fb_report.specs.Lines.{track_text};
 ghost use Rattle.fb_top.specs.Notes.{numbered, place_text, valued};
 
+use fb_texts::{push_number, push_words};
 use fb_units::{KeyText, NoMemory, Place, Track};
-use itoa::Buffer;
-
-/// Adds words as they are. The only error is out of memory.
-pub fn push_words(text: &mut Vec<u8>, words: &str) -> Result<(), NoMemory>
-    ensures { OnOk result (text.new.items ≡ text.old.items ++ words.now) }
-{
-    text.extend_from_slice(words.as_bytes())?;
-    Ok(())
-}
-
-/// Adds a number in decimal digits. The only error is out of memory.
-pub fn push_number(text: &mut Vec<u8>, number: u64) -> Result<(), NoMemory>
-    ensures { OnOk result (text.new.items ≡ text.old.items ++ decimal number) }
-{
-    let mut buffer = Buffer::new();
-    text.extend_from_slice(buffer.format(number).as_bytes())?;
-    Ok(())
-}
 
 /// Adds which word or line is meant. The only error is out of memory.
 pub fn push_numbered(text: &mut Vec<u8>, what: &str, number: u64) -> Result<(), NoMemory>

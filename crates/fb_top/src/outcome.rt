@@ -6,17 +6,15 @@ use fb_bgwrite::SpillRun;
 use fb_calls::CallsFault;
 use fb_check::Verdict;
 use fb_desk::{Input, Output};
+use fb_inputs::InputsError;
 use fb_mirror::Rebuilt;
 use fb_params::ParamsFault;
 use fb_puts::PutsFault;
 use fb_report::ReportsFault;
 use fb_rows::Run;
+use fb_texts::{Runs, TextsError};
 use fb_trace::TraceFault;
-use fb_units::Items;
 use fb_words::UsageFault;
-
-/// The runs of the devices of an array, by device.
-pub type Runs = Items<Run>;
 
 /// How a command ended.
 #[derive(Drop)]
@@ -62,6 +60,40 @@ pub enum Outcome {
     WriteFault(Output),
     /// The command ran out of memory.
     NoMemory,
+}
+
+impl From<InputsError> for Outcome {
+    ghost use Rattle.std.specs.Prelude.{◌≡◌};
+    ghost use Rattle.fb_top.specs.Ends.{unread};
+
+    ghost from_gives = { λ error outcome. outcome ≡ unread error };
+
+    fn from(error: InputsError) -> Outcome {
+        match error {
+            InputsError::Params(fault) => Outcome::Params(fault),
+            InputsError::Trace(fault) => Outcome::Trace(fault),
+            InputsError::Calls(fault) => Outcome::Calls(fault),
+            InputsError::Puts(fault) => Outcome::Puts(fault),
+            InputsError::Reports(fault) => Outcome::Reports(fault),
+            InputsError::TooLong(input) => Outcome::TooLong(input),
+            InputsError::ReadFault(input) => Outcome::ReadFault(input),
+            InputsError::NoMemory => Outcome::NoMemory,
+        }
+    }
+}
+
+impl From<TextsError> for Outcome {
+    ghost use Rattle.std.specs.Prelude.{◌≡◌};
+    ghost use Rattle.fb_top.specs.Ends.{unwritten};
+
+    ghost from_gives = { λ error outcome. outcome ≡ unwritten error };
+
+    fn from(error: TextsError) -> Outcome {
+        match error {
+            TextsError::WriteFault(output) => Outcome::WriteFault(output),
+            TextsError::NoMemory => Outcome::NoMemory,
+        }
+    }
 }
 
 /// The exit status of an outcome: 0 where all was written and no report is wrong, 1 where a report

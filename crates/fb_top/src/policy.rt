@@ -9,7 +9,7 @@ ghost use Rattle.fb_model.specs.FullRun.{IsFull};
 ghost use Rattle.fb_report.specs.Grammar.{back_grammar, fore_grammar};
 ghost use Rattle.fb_report.specs.Reading.{IsReport};
 ghost use Rattle.fb_top.specs.Done.{CanBeTold};
-ghost use Rattle.fb_top.specs.Read.{key_of};
+ghost use Rattle.fb_inputs.specs.Read.{key_of};
 
 use fb_check::{Printed, Verdict, judge_printed};
 use fb_decide::RunInputs;

@@ -1,5 +1,5 @@
 // The command that replays a trace, and writes puts in the free gaps of the run.
-ghost use Rattle.std.specs.Prelude.{◌≡◌, ◌≤◌, ◌*◌, ◌^◌, true, false, is_some, length, IfErr, IfOk, IfSome, OnOk};
+ghost use Rattle.std.specs.Prelude.{◌≡◌, ◌≤◌, ◌*◌, ◌^◌, true, false, is_some, length, IfOk, IfSome, OnOk};
 ghost use Rattle.std.specs.List.{AllByRecursion};
 ghost use Rattle.std.specs.Option.{option_map};
 ghost use Rattle.fb_bgwrite.specs.Text.{HasRange};
@@ -12,24 +12,24 @@ ghost use Rattle.fb_words.specs.Command.{go_together};
 ghost use Rattle.fb_words.specs.Verdict.{replay_terms};
 ghost use Rattle.fb_top.specs.Causes.{HasCause};
 ghost use Rattle.fb_top.specs.Done.{AreReadBack, CanBeRead, CanBeTold};
-ghost use Rattle.fb_top.specs.Opened.{OpensAsNamed};
-ghost use Rattle.fb_top.specs.Read.{files_of, inputs_of_files, key_of};
-ghost use Rattle.fb_top.specs.Names.{replay_names};
-ghost use Rattle.fb_top.specs.Spilled.{CanBeSpilled, HoldsReplay, IsRunOfFiles, StopsReplay, WritesGiven};
+ghost use Rattle.fb_inputs.specs.Read.{files_of, inputs_of_files, key_of};
+ghost use Rattle.fb_inputs.specs.Puts.{CanBeSpilled};
+ghost use Rattle.fb_top.specs.Spilled.{IsRunOfFiles, WritesGiven, replay_texts};
 ghost use Rattle.fb_top.specs.Taken.{TakesReplay, done_as};
-ghost use Rattle.fb_top.specs.Unnamed.{KeepsInputs, KeepsUnnamed};
-ghost use Rattle.fb_top.specs.Called.{Ends, EndsAs, replay_asks};
+ghost use Rattle.fb_inputs.specs.Account.{AreReadAs, KeepsInputs};
+ghost use Rattle.fb_streams.specs.Called.{Ends, replay_asks};
+ghost use Rattle.fb_texts.specs.Ends.{failed_output};
+ghost use Rattle.fb_texts.specs.Written.{WritesTexts};
+ghost use Rattle.fb_top.specs.Ends.{EndsAs};
 
 use crate::Outcome;
 use crate::policy::replay_by;
-use crate::reading::RunFiles;
-use crate::replay_inputs::{ReplayInputs, read_replay_inputs};
 use crate::report::write_reports;
-use crate::spill_text::SpillLines;
-use crate::writing::write_lines;
 use fb_bgwrite::{SpillRun, spill};
 use fb_desk::{Desk, Output};
+use fb_inputs::{ReplayInputs, RunFiles, read_replay_inputs};
 use fb_rows::Run;
+use fb_texts::{SpillLines, TextsError, write_given};
 use fb_units::NoMemory;
 use fb_words::ReplayWords;
 use std::alloc::Global;
@@ -41,14 +41,13 @@ pub fn run_replay<D: Desk>(alloc: Global, desk: &mut D, words: &ReplayWords) -> 
     requires until { words.now.until ≤ 10 ^ 15 }
     requires together { go_together (replay_terms words.now).puts (replay_terms words.now).spill ≡ true }
     ensures cause { HasCause (replay_terms words.now) (D.seen desk.old) (D.seen desk.new) result }
-    ensures unnamed { KeepsUnnamed (replay_names (replay_terms words.now)) (D.seen desk.old) (D.seen desk.new) }
-    ensures opened { OpensAsNamed (replay_names (replay_terms words.now)) (D.seen desk.old) (D.seen desk.new) }
+    ensures inputs { AreReadAs (replay_asks (replay_terms words.now)).inputs (D.seen desk.old) (D.seen desk.new) }
     ensures calls { EndsAs (replay_asks (replay_terms words.now)) result (D.seen desk.old).calls (D.seen desk.new).calls }
     ensures no_note { (D.seen desk.new).outputs Output.Note ≡ (D.seen desk.old).outputs Output.Note }
 {
     match read_replay_inputs(alloc, desk, words) {
         Ok(read) => replay_and_write(alloc, desk, words, &read),
-        Err(outcome) => outcome,
+        Err(error) => Outcome::from(error),
     }
 }
 
@@ -82,7 +81,7 @@ fn replay_and_write<D: Desk>(
     };
     match write_replay(alloc, desk, words, files, &run, spill.as_ref()) {
         Ok(()) => outcome_of(run, spill),
-        Err(outcome) => outcome,
+        Err(error) => Outcome::from(error),
     }
 }
 
@@ -102,6 +101,7 @@ fn spill_given(alloc: Global, read: &ReplayInputs, run: &Run) -> Result<Option<S
     requires early { run.now.end ≤ 9 * 10 ^ 18 }
     requires fit { IfSome read.now.puts (λ puts. CanBeSpilled (files_of read.now.files) (accepted puts)) }
     ensures writes { IfOk result (WritesGiven (files_of read.now.files).disk run.now (option_map accepted read.now.puts)) }
+    ensures named { IfOk result (λ spill. is_some spill ≡ is_some read.now.puts) }
     ensures told { IfOk result (λ spill. IfSome spill (λ spill. AllByRecursion HasRange spill.items)) }
 {
     match &read.puts {
@@ -113,7 +113,7 @@ fn spill_given(alloc: Global, read: &ReplayInputs, run: &Run) -> Result<Option<S
 // Writes the reports of a run, and then the text of what was written in its free gaps, if there
 // were puts.
 //
-// The error is the outcome: a call that writes failed, or memory ran out.
+// The error comes where a call that writes failed, or memory ran out.
 fn write_replay<D: Desk>(
     alloc: Global,
     desk: &mut D,
@@ -121,34 +121,28 @@ fn write_replay<D: Desk>(
     files: &RunFiles,
     run: &Run,
     spill: Option<&SpillRun>,
-) -> Result<(), Outcome>
+) -> Result<(), TextsError>
     requires fresh { (output : Output) → ((D.seen desk.old).outputs output).begun ≡ false }
     requires told { CanBeTold files.now.calls.names run.now }
-    requires named { is_some spill ≡ is_some (replay_terms words.now).spill }
     requires spill_told { IfSome spill (λ spill. AllByRecursion HasRange spill.now.items) }
-    ensures whole { OnOk result (HoldsReplay (replay_terms words.now) (files_of files.now) run.now
-        (option_map (λ spill. spill.now) spill.entry) (D.seen desk.old) (D.seen desk.new)) }
-    ensures stops { IfErr result (StopsReplay (replay_terms words.now) (files_of files.now) run.now
-        (option_map (λ spill. spill.now) spill.entry) (D.seen desk.old) (D.seen desk.new)) }
-    ensures calls { Ends (replay_asks (replay_terms words.now)) result (D.seen desk.old).calls (D.seen desk.new).calls }
+    ensures texts { WritesTexts (replay_texts (replay_terms words.now) (files_of files.now) run.now
+        (option_map (λ spill. spill.now) spill.entry)) (D.seen desk.old) (D.seen desk.new) result }
+    ensures calls { Ends failed_output (replay_asks (replay_terms words.now)) result (D.seen desk.old).calls (D.seen desk.new).calls }
     ensures read { OnOk result (CanBeRead (files_of files.now) run.now
         → AreReadBack (replay_terms words.now) (files_of files.now) run.now) }
     ensures no_note { (D.seen desk.new).outputs Output.Note ≡ (D.seen desk.old).outputs Output.Note }
     ensures inputs { KeepsInputs (D.seen desk.old) (D.seen desk.new) }
 {
-    match write_reports(alloc, desk, words, files, run) {
-        Ok(()) => {}
-        Err(outcome) => return Err(outcome),
-    }
-    match (spill, &words.spill) {
-        (Some(spill), Some(name)) => {
+    write_reports(alloc, desk, words, files, run)?;
+    match spill {
+        Some(spill) => {
             let lines = SpillLines {
                 spill,
                 sector_bytes: files.params.disk.sector_bytes,
                 bytes: words.bytes,
             };
-            write_lines(alloc, desk, Output::Spill, name.as_str(), &lines)
+            write_given(alloc, desk, Output::Spill, &words.spill, &lines)
         }
-        _ => Ok(()),
+        None => Ok(()),
     }
 }

@@ -2,7 +2,12 @@ use Rattle.std.proofs.Common.{◌≤◌, ◌∙◌, ℕ, ◌<◌, refl, sym, sub
 use Rattle.std.specs.Prelude.{IfSome}
 use Rattle.fb_words.specs.Verdict.{array_terms}
 use Rattle.fb_top.proofs.Arrayed.{arrayed, at_texts, ran_out, runs_taken}
-use Rattle.fb_top.proofs.Called.{no_call}
+use Rattle.fb_streams.proofs.Called.{no_call}
+use Rattle.fb_streams.specs.Called.{array_asks}
+use Rattle.fb_top.specs.declared.outcome.Outcome.{Outcome}
+use Rattle.fb_top.specs.Array.{ArrayHasCause}
+use Rattle.fb_top.specs.Ends.{EndsAs}
+use Rattle.fb_top.proofs.Ends.{unwritten_ends}
 use Rattle.fb_top.proofs.array.replay_array.Goals as goal
 
 pub returns-in-Err-clause-cause : goal.returns-in-Err-clause-cause
@@ -29,19 +34,28 @@ returns-in-Ok-write_array-clause-cause g c = λ first takes.
     let new = g.D.Desk.seen c.write_array.new.desk in
     let are_runs = runs_taken takes c.in-Ok.runs (c.in-Ok.ensures.count ∙ c.requires.count) c.in-Ok.ensures.full in
     arrayed (array_terms c.args.words.now) first _ new new c.in-Ok.runs are_runs
-    (λ output no_note. takes.outputs output) (λ output no_note. refl)
-    c.in-Ok-copy_survivor.copy c.in-Ok-copy_survivor.ensures.copied c.in-Ok-write_array.ensures.whole
+    (λ output no_note. takes.account.outputs output) (λ output no_note. refl)
+    c.in-Ok-copy_survivor.copy c.in-Ok-copy_survivor.ensures.copied c.in-Ok-write_array.ensures.texts
 
 pub returns-in-Err-write_array-clause-cause : goal.returns-in-Err-write_array-clause-cause
 returns-in-Err-write_array-clause-cause g c = λ first takes.
     let new = g.D.Desk.seen c.write_array.new.desk in
     let are_runs = runs_taken takes c.in-Ok.runs (c.in-Ok.ensures.count ∙ c.requires.count) c.in-Ok.ensures.full in
-    at_texts (array_terms c.args.words.now) first _ new new c.in-Ok.runs are_runs
-    (λ output no_note. takes.outputs output) (λ output no_note. refl)
-    c.in-Err-write_array.outcome c.in-Err-write_array.ensures.stops
+    subst (λ (outcome : Outcome). ArrayHasCause (array_terms c.args.words.now) first new outcome) (sym c.from.ensures)
+    (at_texts (array_terms c.args.words.now) first _ new new c.in-Ok.runs are_runs
+    (λ output no_note. takes.account.outputs output) (λ output no_note. refl)
+    c.in-Err-write_array.error c.in-Err-write_array.ensures.texts)
 
 pub returns-in-Err-clause-calls : goal.returns-in-Err-clause-calls
 returns-in-Err-clause-calls g c = no_call
 
 pub returns-in-Err-copy_survivor-clause-calls : goal.returns-in-Err-copy_survivor-clause-calls
 returns-in-Err-copy_survivor-clause-calls g c = no_call
+
+pub returns-in-Err-write_array-clause-calls : goal.returns-in-Err-write_array-clause-calls
+returns-in-Err-write_array-clause-calls g c =
+    let asks = array_asks (array_terms c.args.words.now) in
+    let old = (g.D.Desk.seen c.args.desk.now).calls in
+    let new = (g.D.Desk.seen c.write_array.new.desk).calls in
+    subst (λ (outcome : Outcome). EndsAs asks outcome old new) (sym c.from.ensures)
+    (unwritten_ends asks c.in-Err-write_array.error old new c.in-Err-write_array.ensures.calls)

@@ -8,11 +8,12 @@ use Rattle.fb_model.specs.FullRun.{IsFull}
 use Rattle.fb_model.specs.Inputs.{Inputs}
 use Rattle.fb_trace.specs.Verdict.{accepted}
 use Rattle.fb_words.specs.Verdict.{array_terms}
-use Rattle.fb_top.specs.Array.{CanTellFore, IsRunOfDevice}
-use Rattle.fb_top.specs.Devices.{array_of, is_rebuilt_from}
+use Rattle.fb_texts.specs.Sections.{CanTellFore}
+use Rattle.fb_top.specs.Array.{IsRunOfDevice}
+use Rattle.fb_inputs.specs.Devices.{array_of, is_rebuilt_from}
 use Rattle.fb_top.specs.Done.{CanBeTold}
-use Rattle.fb_top.proofs.DeviceInputs.{handed_calls, handed_inputs, handed_names, trace_at}
-use Rattle.fb_top.proofs.Each.{each_more}
+use Rattle.fb_inputs.proofs.DeviceInputs.{handed_calls, handed_inputs, handed_names, trace_at}
+use Rattle.fb_texts.proofs.Each.{each_more}
 use Rattle.fb_top.proofs.array.replay_devices.Goals as goal
 
 pub replay_by-requires : goal.replay_by-requires

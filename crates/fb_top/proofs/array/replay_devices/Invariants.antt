@@ -3,8 +3,9 @@ use Rattle.std.specs.Prelude.{slice_get}
 use Rattle.std.specs.List.{AllByRecursion}
 use Rattle.fb_rows.specs.declared.run.Run.{Run}
 use Rattle.fb_words.specs.Verdict.{array_terms}
-use Rattle.fb_top.specs.Array.{CanTellFore, IsRunOfDevice}
-use Rattle.fb_top.specs.Devices.{array_of, is_rebuilt_from}
+use Rattle.fb_texts.specs.Sections.{CanTellFore}
+use Rattle.fb_top.specs.Array.{IsRunOfDevice}
+use Rattle.fb_inputs.specs.Devices.{array_of, is_rebuilt_from}
 use Rattle.fb_top.specs.Done.{CanBeTold}
 use Rattle.fb_top.proofs.array.replay_devices.Given as goal
 

@@ -1,7 +1,9 @@
 use Rattle.std.proofs.Common.{◌∙◌, Global, Ok, ap, map, subst, sym}
 use Rattle.std.specs.String.{string_bytes}
 use Rattle.fb_words.specs.Verdict.{terms}
-use Rattle.fb_top.specs.Called.{EndsAs, asked_by}
+use Rattle.fb_inputs.specs.Account.{AreReadAs}
+use Rattle.fb_top.specs.Ends.{EndsAs}
+use Rattle.fb_streams.specs.Called.{asked_by}
 use Rattle.fb_top.proofs.Together.{of_command}
 use Rattle.fb_top.proofs.command.answer_words.Goals as goal
 
@@ -14,3 +16,9 @@ returns-in-Ok-Replay-clause-calls g c =
     let given = c.in-Ok-Replay.ensures.answer ∙ ap (λ command. Ok (terms command)) c.in-Ok-Replay.field-0-is in
     subst (λ reading. EndsAs (asked_by reading) c.run_replay.result (g.D.Desk.seen c.args.desk.now).calls
     (g.D.Desk.seen c.run_replay.new.desk).calls) (sym given) c.run_replay.ensures.calls
+
+pub returns-in-Ok-Replay-clause-inputs : goal.returns-in-Ok-Replay-clause-inputs
+returns-in-Ok-Replay-clause-inputs g c =
+    let given = c.in-Ok-Replay.ensures.answer ∙ ap (λ command. Ok (terms command)) c.in-Ok-Replay.field-0-is in
+    subst (λ reading. AreReadAs (asked_by reading).inputs (g.D.Desk.seen c.args.desk.now) (g.D.Desk.seen c.run_replay.new.desk))
+    (sym given) c.run_replay.ensures.inputs

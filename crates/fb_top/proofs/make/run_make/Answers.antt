@@ -1,12 +1,17 @@
-use Rattle.std.proofs.Common.{List, Some, ap, sym, ℕ, subst}
-use Rattle.fb_top.specs.Causes.{StopsDisk}
-use Rattle.fb_top.specs.Read.{ReadsDisk}
-use Rattle.fb_top.proofs.Making.{disk_stopped}
-use Rattle.fb_top.proofs.Later.{later_at_params}
-use Rattle.fb_top.proofs.Unnamed.{later_after}
+use Rattle.std.proofs.Common.{List, Some, None, ap, sym, ℕ, subst}
+use Rattle.fb_desk.specs.declared.desk.Input.TheVariants.{Params}
 use Rattle.fb_words.specs.Verdict.{make_terms}
-use Rattle.fb_top.proofs.Called.{then_ends}
-use Rattle.fb_top.specs.Called.{make_asks}
+use Rattle.fb_streams.specs.Called.{make_asks}
+use Rattle.fb_streams.proofs.Called.{then_ends}
+use Rattle.fb_inputs.specs.Causes.{StopsDisk}
+use Rattle.fb_inputs.specs.Ends.{failed_input}
+use Rattle.fb_inputs.specs.Read.{ReadsDisk}
+use Rattle.fb_inputs.proofs.Account.{read_named, still_read}
+use Rattle.fb_top.specs.Ends.{EndsAs, failed_at}
+use Rattle.fb_top.specs.Make.{MakeHasCause}
+use Rattle.fb_top.specs.declared.outcome.Outcome.{Outcome}
+use Rattle.fb_top.proofs.Ends.{unread_ends}
+use Rattle.fb_top.proofs.Making.{disk_stopped}
 use Rattle.fb_top.proofs.make.run_make.Goals as goal
 
 pub returns-in-Ok-clause-cause : goal.returns-in-Ok-clause-cause
@@ -17,23 +22,35 @@ returns-in-Ok-clause-cause g c =
     c.in-Ok.ensures.disk)
     c.in-Ok.ensures.only
 
-pub returns-in-Ok-clause-unnamed : goal.returns-in-Ok-clause-unnamed
-returns-in-Ok-clause-unnamed g c =
-    let old = g.D.Desk.seen c.args.desk.now in
-    let mid = g.D.Desk.seen c.read_disk.new.desk in
-    later_after old mid (g.D.Desk.seen c.make_for.new.desk) (later_at_params old mid c.in-Ok.ensures.only) c.make_for.ensures.inputs
-
 pub returns-in-Err-clause-cause : goal.returns-in-Err-clause-cause
 returns-in-Err-clause-cause g c =
+    let terms = make_terms c.args.words.now in
     let old = g.D.Desk.seen c.args.desk.now in
     let new = g.D.Desk.seen c.read_disk.new.desk in
-    disk_stopped (make_terms c.args.words.now) old new c.in-Err.outcome c.in-Err.ensures.only
-    (subst (λ (name : List ℕ). StopsDisk name old new c.in-Err.outcome) c.as_str.ensures.value c.in-Err.ensures.stops)
+    subst (MakeHasCause terms old new) (sym c.from.ensures) (disk_stopped terms old new c.in-Err.error c.in-Err.ensures.only
+    (subst (λ (name : List ℕ). StopsDisk name old new c.in-Err.error) c.as_str.ensures.value c.in-Err.ensures.stops))
+
+pub returns-in-Ok-clause-inputs : goal.returns-in-Ok-clause-inputs
+returns-in-Ok-clause-inputs g c =
+    let asks = make_asks (make_terms c.args.words.now) in
+    let named = ap Some (sym c.as_str.ensures.value) in
+    still_read asks.inputs (g.D.Desk.seen c.args.desk.now) (g.D.Desk.seen c.read_disk.new.desk) (g.D.Desk.seen c.make_for.new.desk)
+    (read_named asks Params c.as_str.result.now None (g.D.Desk.seen c.args.desk.now) (g.D.Desk.seen c.read_disk.new.desk) named
+    c.in-Ok.ensures.only c.in-Ok.ensures.opened (c.in-Ok.ensures.calls asks named)).inputs c.make_for.ensures.inputs
+
+pub returns-in-Err-clause-inputs : goal.returns-in-Err-clause-inputs
+returns-in-Err-clause-inputs g c =
+    let asks = make_asks (make_terms c.args.words.now) in
+    let named = ap Some (sym c.as_str.ensures.value) in
+    (read_named asks Params c.as_str.result.now (failed_input c.in-Err.error) (g.D.Desk.seen c.args.desk.now)
+    (g.D.Desk.seen c.read_disk.new.desk) named c.in-Err.ensures.only c.in-Err.ensures.opened (c.in-Err.ensures.calls asks named)).inputs
 
 pub returns-in-Ok-clause-calls : goal.returns-in-Ok-clause-calls
-returns-in-Ok-clause-calls g c =
-    let asks = make_asks (make_terms c.args.words.now) in
-    then_ends asks c.make_for.result _ (c.in-Ok.ensures.calls asks (ap Some (sym c.as_str.ensures.value))) c.make_for.ensures.calls
+returns-in-Ok-clause-calls g c = then_ends (failed_at c.make_for.result) _
+    (c.in-Ok.ensures.calls (make_asks (make_terms c.args.words.now)) (ap Some (sym c.as_str.ensures.value))) c.make_for.ensures.calls
 
 pub returns-in-Err-clause-calls : goal.returns-in-Err-clause-calls
-returns-in-Err-clause-calls g c = c.in-Err.ensures.calls (make_asks (make_terms c.args.words.now)) (ap Some (sym c.as_str.ensures.value))
+returns-in-Err-clause-calls g c =
+    let asks = make_asks (make_terms c.args.words.now) in
+    subst (λ (outcome : Outcome). EndsAs asks outcome (g.D.Desk.seen c.args.desk.now).calls (g.D.Desk.seen c.read_disk.new.desk).calls)
+    (sym c.from.ensures) (unread_ends _ c.in-Err.error _ _ (c.in-Err.ensures.calls asks (ap Some (sym c.as_str.ensures.value))))

@@ -5,8 +5,8 @@ use Rattle.fb_desk.specs.declared.desk.Output.TheVariants.{MadeTrace}
 use Rattle.fb_desk.specs.Calls.{ChangesOutput}
 use Rattle.fb_maker.specs.Trace.{made_lines}
 use Rattle.fb_words.specs.Verdict.{make_terms}
-use Rattle.fb_top.specs.Called.{AreServed, make_asks}
-use Rattle.fb_top.proofs.Fronts.{HoldsLines}
+use Rattle.fb_streams.specs.Called.{AreServed, make_asks}
+use Rattle.fb_texts.proofs.Fronts.{HoldsLines}
 use Rattle.fb_top.proofs.make.write_trace.Given as goal
 
 abbrev pub invariant-loop-index : goal.invariant-loop-index

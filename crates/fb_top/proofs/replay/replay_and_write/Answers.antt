@@ -1,4 +1,4 @@
-use Rattle.std.proofs.Common.{◌≡◌, Option, length, inl, sym, subst}
+use Rattle.std.proofs.Common.{◌≡◌, ◌∙◌, Option, length, inl, sym, subst}
 use Rattle.fb_bgwrite.specs.declared.items.SpillRun.{SpillRun}
 use Rattle.fb_script.specs.Allowed.{tasks}
 use Rattle.fb_script.specs.declared.call.Calls.{Calls}
@@ -8,12 +8,15 @@ use Rattle.fb_model.specs.Inputs.{Inputs}
 use Rattle.fb_words.specs.Verdict.{replay_terms}
 use Rattle.fb_top.specs.declared.outcome.Outcome.{Outcome}
 use Rattle.fb_top.specs.Causes.{HasCause}
-use Rattle.fb_top.specs.Read.{files_of, inputs_of_files, key_of}
+use Rattle.fb_inputs.specs.Read.{files_of, inputs_of_files, key_of}
 use Rattle.fb_top.specs.Done.{CanBeTold}
-use Rattle.fb_top.specs.Spilled.{HoldsReplay, StopsReplay}
+use Rattle.fb_texts.specs.Written.{StopsTexts, WritesAll}
+use Rattle.fb_top.specs.Spilled.{replay_texts}
 use Rattle.fb_top.proofs.Spills.{all_written, at_replay, replay_ran_out}
-use Rattle.fb_top.proofs.Called.{done_ends, no_call}
-use Rattle.fb_top.specs.Called.{EndsAs, replay_asks}
+use Rattle.fb_top.proofs.Ends.{done_ends, unwritten_ends}
+use Rattle.fb_streams.proofs.Called.{no_call}
+use Rattle.fb_top.specs.Ends.{EndsAs}
+use Rattle.fb_streams.specs.Called.{replay_asks}
 use Rattle.fb_top.proofs.replay.replay_and_write.Given as given
 use Rattle.fb_top.proofs.replay.replay_and_write.Goals as goal
 use Rattle.fb_top.proofs.replay.replay_and_write.Goals.{In-Ok}
@@ -57,10 +60,11 @@ returns-in-Err-write_replay-clause-cause g c = λ first takes.
     let files = files_of c.args.read.now.files in
     let run = c.in-Ok.run' in
     let is_full = full g (goal.at.returns-in-Err-write_replay-clause-cause g c).In-Ok in
-    at_replay terms files _ first mid takes run is_full c.in-Ok-spill_given.spill c.in-Ok-spill_given.ensures.writes new
-    c.in-Err-write_replay.outcome
-    (subst (λ (s : Option SpillRun). StopsReplay terms files run s mid new c.in-Err-write_replay.outcome) c.as_ref.ensures.value
-    c.in-Err-write_replay.ensures.stops)
+    let error = c.in-Err-write_replay.error in
+    subst (λ (outcome : Outcome). HasCause terms first new outcome) (sym c.from.ensures)
+    (at_replay terms files _ first mid takes run is_full c.in-Ok-spill_given.spill new c.in-Ok-spill_given.ensures.writes error
+    (subst (λ (s : Option SpillRun). StopsTexts (replay_texts terms files run s) mid new error) c.as_ref.ensures.value
+    c.in-Err-write_replay.ensures.texts))
 
 pub returns-in-Ok-write_replay-clause-cause : goal.returns-in-Ok-write_replay-clause-cause
 returns-in-Ok-write_replay-clause-cause g c = λ first takes.
@@ -72,7 +76,9 @@ returns-in-Ok-write_replay-clause-cause g c = λ first takes.
     let is_full = full g (goal.at.returns-in-Ok-write_replay-clause-cause g c).In-Ok in
     subst (λ (outcome : Outcome). HasCause terms first new outcome) (sym c.outcome_of.ensures)
     (all_written terms files _ first mid takes run is_full c.in-Ok-spill_given.spill new c.in-Ok-spill_given.ensures.writes
-    (subst (λ (s : Option SpillRun). HoldsReplay terms files run s mid new) c.as_ref.ensures.value c.in-Ok-write_replay.ensures.whole)
+    (c.in-Ok-spill_given.ensures.named ∙ c.requires.named)
+    (subst (λ (s : Option SpillRun). WritesAll (replay_texts terms files run s) mid new) c.as_ref.ensures.value
+    c.in-Ok-write_replay.ensures.texts)
     c.in-Ok-write_replay.ensures.read)
 
 pub returns-in-Err-clause-calls : goal.returns-in-Err-clause-calls
@@ -86,3 +92,11 @@ returns-in-Ok-write_replay-clause-calls g c =
     let asks = replay_asks (replay_terms c.args.words.now) in
     subst (λ (outcome : Outcome). EndsAs asks outcome (g.D.Desk.seen c.args.desk.now).calls (g.D.Desk.seen c.write_replay.new.desk).calls)
     (sym c.outcome_of.ensures) (done_ends asks c.in-Ok.run' c.in-Ok-spill_given.spill c.in-Ok-write_replay.ensures.calls)
+
+pub returns-in-Err-write_replay-clause-calls : goal.returns-in-Err-write_replay-clause-calls
+returns-in-Err-write_replay-clause-calls g c =
+    let asks = replay_asks (replay_terms c.args.words.now) in
+    let old = (g.D.Desk.seen c.args.desk.now).calls in
+    let new = (g.D.Desk.seen c.write_replay.new.desk).calls in
+    subst (λ (outcome : Outcome). EndsAs asks outcome old new) (sym c.from.ensures)
+    (unwritten_ends asks c.in-Err-write_replay.error old new c.in-Err-write_replay.ensures.calls)

@@ -1,7 +1,12 @@
+use Rattle.std.proofs.Common.{sym, subst}
 use Rattle.fb_words.specs.Verdict.{replay_terms}
-use Rattle.fb_top.proofs.Later.{replay_stopped}
-use Rattle.fb_top.proofs.Called.{then_ends}
-use Rattle.fb_top.specs.Called.{replay_asks}
+use Rattle.fb_streams.specs.Called.{replay_asks}
+use Rattle.fb_streams.proofs.Called.{then_ends}
+use Rattle.fb_inputs.proofs.Account.{still_read}
+use Rattle.fb_top.specs.Causes.{HasCause}
+use Rattle.fb_top.specs.Ends.{EndsAs, failed_at}
+use Rattle.fb_top.specs.declared.outcome.Outcome.{Outcome}
+use Rattle.fb_top.proofs.Ends.{replay_stopped, unread_ends}
 use Rattle.fb_top.proofs.replay.run_replay.Goals as goal
 
 pub returns-in-Ok-clause-cause : goal.returns-in-Ok-clause-cause
@@ -10,16 +15,27 @@ returns-in-Ok-clause-cause g c = c.replay_and_write.ensures.cause (g.D.Desk.seen
   accepts_puts = c.in-Ok.ensures.puts;
   sound = c.in-Ok.ensures.sound;
   fit = c.in-Ok.ensures.fit;
-  unnamed = c.in-Ok.ensures.unnamed;
-  outputs = c.in-Ok.ensures.outputs;
+  account = c.in-Ok.ensures.account;
 })
 
 pub returns-in-Err-clause-cause : goal.returns-in-Err-clause-cause
 returns-in-Err-clause-cause g c =
-    replay_stopped (replay_terms c.args.words.now) (g.D.Desk.seen c.args.desk.now) (g.D.Desk.seen c.read_replay_inputs.new.desk)
-    c.in-Err.outcome
-    c.in-Err.ensures.cause
+    let terms = replay_terms c.args.words.now in
+    let old = g.D.Desk.seen c.args.desk.now in
+    let new = g.D.Desk.seen c.read_replay_inputs.new.desk in
+    subst (HasCause terms old new) (sym c.from.ensures) (replay_stopped terms old new c.in-Err.error c.in-Err.ensures.cause)
+
+pub returns-in-Ok-clause-inputs : goal.returns-in-Ok-clause-inputs
+returns-in-Ok-clause-inputs g c =
+    still_read (replay_asks (replay_terms c.args.words.now)).inputs (g.D.Desk.seen c.args.desk.now)
+    (g.D.Desk.seen c.read_replay_inputs.new.desk) (g.D.Desk.seen c.replay_and_write.new.desk) c.in-Ok.ensures.account.inputs
+    c.replay_and_write.ensures.inputs
 
 pub returns-in-Ok-clause-calls : goal.returns-in-Ok-clause-calls
 returns-in-Ok-clause-calls g c =
-    then_ends (replay_asks (replay_terms c.args.words.now)) c.replay_and_write.result _ c.in-Ok.ensures.calls c.replay_and_write.ensures.calls
+    then_ends (failed_at c.replay_and_write.result) _ c.in-Ok.ensures.account.calls c.replay_and_write.ensures.calls
+
+pub returns-in-Err-clause-calls : goal.returns-in-Err-clause-calls
+returns-in-Err-clause-calls g c =
+    subst (λ (outcome : Outcome). EndsAs (replay_asks (replay_terms c.args.words.now)) outcome (g.D.Desk.seen c.args.desk.now).calls
+    (g.D.Desk.seen c.read_replay_inputs.new.desk).calls) (sym c.from.ensures) (unread_ends _ c.in-Err.error _ _ c.in-Err.ensures.account.calls)

@@ -1,6 +1,6 @@
 use Rattle.fb_puts.specs.Verdict.{accepted, reserve}
-use Rattle.fb_top.specs.Read.{files_of, inputs_of_files}
-use Rattle.fb_top.specs.Spilled.{CanBeSpilled}
+use Rattle.fb_inputs.specs.Read.{files_of, inputs_of_files}
+use Rattle.fb_inputs.specs.Puts.{CanBeSpilled}
 use Rattle.fb_top.proofs.Spills.{holds_of}
 use Rattle.fb_top.proofs.RunGaps.{run_gaps}
 use Rattle.fb_top.proofs.Untouching.{untouched_rows}

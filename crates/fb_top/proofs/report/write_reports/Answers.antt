@@ -1,13 +1,37 @@
-use Rattle.std.proofs.Common.{Some, ◌∙◌, ap, sym}
-use Rattle.std.specs.Option.{option_map}
-use Rattle.std.specs.String.{string_bytes}
+use Rattle.std.proofs.Common.{◌≢◌, refl}
+use Rattle.std.specs.Prelude.{codes}
+use Rattle.std.proofs.lemmas.Result.{err_from_is_err_and}
+use Rattle.fb_desk.specs.declared.desk.Output.TheVariants.{Back, Fore, Note}
 use Rattle.fb_words.specs.Verdict.{replay_terms}
-use Rattle.fb_top.proofs.Called.{then_result}
-use Rattle.fb_top.specs.Called.{replay_asks}
+use Rattle.fb_inputs.specs.Read.{files_of}
+use Rattle.fb_streams.proofs.Called.{then_result}
+use Rattle.fb_streams.specs.Called.{replay_asks}
+use Rattle.fb_texts.specs.Ends.{failed_output}
+use Rattle.fb_texts.specs.Written.{given_text, one_text}
+use Rattle.fb_texts.proofs.Texts.{all_given, stopped_sooner, then_texts}
+use Rattle.fb_top.specs.Done.{back_told, fore_told}
 use Rattle.fb_top.proofs.report.write_reports.Goals as goal
 
-pub returns-in-Some-clause-calls : goal.returns-in-Some-clause-calls
-returns-in-Some-clause-calls g c =
-    let asks = replay_asks (replay_terms c.args.words.now) in
-    then_result asks c.write_back.result _ c.in-Ok.ensures.calls
-    (c.write_back.ensures.calls asks (ap (option_map string_bytes) c.in-Some.is ∙ ap Some (sym c.as_str.ensures.value)))
+pub returns-in_err-write_fore-clause-texts : goal.returns-in_err-write_fore-clause-texts
+returns-in_err-write_fore-clause-texts g c =
+    let terms = replay_terms c.args.words.now in
+    let files = files_of c.args.files.now in
+    let run = c.args.run.now in
+    let failed = err_from_is_err_and c.from_residual.result c.from_residual.ensures.1 in
+    rw (failed.1, failed.2) (stopped_sooner (one_text Fore (codes "-") (fore_told terms files run))
+    (given_text Back terms.back (back_told terms files run)) _ _ c.in_err-write_fore.field-0.0 c.in_err-write_fore.ensures.texts)
+
+pub returns-clause-texts : goal.returns-clause-texts
+returns-clause-texts g c =
+    let terms = replay_terms c.args.words.now in
+    let files = files_of c.args.files.now in
+    let told = back_told terms files c.args.run.now in
+    then_texts (one_text Fore (codes "-") (fore_told terms files c.args.run.now)) (given_text Back terms.back told)
+    (g.D.Desk.seen c.write_given.new.desk) c.in_ok-write_fore.ensures.texts
+    (((λ e. cc), all_given (λ output. Fore ≢ output) Back terms.back told (λ e. cc)), tt)
+    (all_given (λ output. output ≢ Note) Back terms.back told (λ e. cc)) c.write_given.result c.write_given.ensures.texts
+
+pub returns-clause-calls : goal.returns-clause-calls
+returns-clause-calls g c =
+    then_result failed_output c.write_given.result _ c.in_ok-write_fore.ensures.calls
+    (c.write_given.ensures.calls (replay_asks (replay_terms c.args.words.now)) refl)

@@ -8,11 +8,11 @@ use Rattle.fb_report.specs.Printed.{IsReadBack}
 use Rattle.fb_report.specs.Summary.{summary_text}
 use Rattle.fb_desk.specs.declared.desk.Output.TheVariants.{Back, Fore}
 use Rattle.fb_words.specs.Command.{checks}
-use Rattle.fb_top.specs.Done.{HoldsGiven, back_told}
-use Rattle.fb_top.specs.Read.{Accepts}
-use Rattle.fb_top.specs.Names.{FileNames, check_file_names}
+use Rattle.fb_top.specs.Done.{back_told}
+use Rattle.fb_inputs.specs.Read.{Accepts}
+use Rattle.fb_streams.specs.Names.{FileNames, check_file_names}
 use Rattle.fb_top.specs.Untouched.{HoldFilesAlike, HoldsLines, HoldsOwnReports}
-use Rattle.fb_top.specs.Written.{HoldsWhole}
+use Rattle.fb_texts.specs.Written.{HoldsTexts, HoldsWhole, given_text}
 use Rattle.fb_top.proofs.Completeness.{complete}
 use Rattle.fb_top.proofs.Printed.{accepted_there, answers_yes, held_lines, prints, told_lines, told_there}
 use Rattle.fb_top.proofs.untouched.printed_reports_are_right.Goals as goal
@@ -26,10 +26,10 @@ returns c = λ old new other terms asked run replayed asks.
     let back = back_lines files.script.names size terms.bytes run in
     let fore_whole : HoldsWhole (new.outputs Fore) (codes "-") (fore_text size terms.bytes run) =
     subst (λ (summary : Bool). HoldsWhole (new.outputs Fore) (codes "-")
-    (if summary then summary_text run else fore_text size terms.bytes run)) asks.no_summary done.fore in
+    (if summary then summary_text run else fore_text size terms.bytes run)) asks.no_summary done.reports.0 in
     let back_whole : HoldsWhole (new.outputs Back) asks.back_name (back_told terms files run) =
-    subst (λ (given : Option (List ℕ)). HoldsGiven given (back_told terms files run) (old.outputs Back) (new.outputs Back)) asks.back_given
-    done.back in
+    (subst (λ (given : Option (List ℕ)). HoldsTexts (given_text Back given (back_told terms files run)) new) asks.back_given
+    done.reports.1).0 in
     let fore_read = done.read.fore asks.no_summary in
     let back_read : IsReadBack back_grammar back =
     subst (λ (given : Option (List ℕ)). IfSome given (λ name. IsReadBack back_grammar back)) asks.back_given done.read.back in

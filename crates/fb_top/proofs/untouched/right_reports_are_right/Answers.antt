@@ -6,8 +6,8 @@ use Rattle.fb_report.specs.Grammar.{back_grammar, fore_grammar, spelled}
 use Rattle.fb_check.specs.Verdict.{Reports}
 use Rattle.fb_words.specs.declared.command.Policy.{Policy}
 use Rattle.std.specs.Prelude.{map}
-use Rattle.fb_top.specs.Read.{Accepts, Files, inputs_of_files, key_of}
-use Rattle.fb_top.specs.Names.{FileNames, replay_file_names}
+use Rattle.fb_inputs.specs.Read.{Accepts, Files, inputs_of_files, key_of}
+use Rattle.fb_streams.specs.Names.{FileNames, replay_file_names}
 use Rattle.fb_top.proofs.OneRun.{one_reading}
 use Rattle.fb_top.proofs.RightReports.{is_yes, read_as}
 use Rattle.fb_top.proofs.untouched.right_reports_are_right.Goals as goal

@@ -1,4 +1,4 @@
-use Rattle.fb_top.specs.Read.{inputs_of_files, key_of}
+use Rattle.fb_inputs.specs.Read.{inputs_of_files, key_of}
 use Rattle.fb_top.proofs.untouched.runs_are_made.Goals as goal
 
 pub returns : goal.returns

@@ -1,4 +1,4 @@
-use Rattle.fb_top.specs.Read.{inputs_of_files, key_of}
+use Rattle.fb_inputs.specs.Read.{inputs_of_files, key_of}
 use Rattle.fb_top.proofs.untouched.runs_look_not_ahead.Goals as goal
 
 pub returns : goal.returns

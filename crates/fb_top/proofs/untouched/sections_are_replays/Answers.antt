@@ -6,9 +6,9 @@ use Rattle.fb_model.specs.Foreground.{promoted}
 use Rattle.fb_report.specs.declared.bytes.Bytes.{Bytes}
 use Rattle.fb_report.specs.Fore.{fore_text}
 use Rattle.fb_report.specs.Summary.{summary_text}
-use Rattle.fb_top.specs.Array.{device_line}
-use Rattle.fb_top.specs.Devices.{device_inputs}
-use Rattle.fb_top.specs.Read.{ReadsDisk, ReadsScript, ReadsTrace, inputs_of_files, key_of}
+use Rattle.fb_texts.specs.Sections.{device_line}
+use Rattle.fb_inputs.specs.Devices.{device_inputs}
+use Rattle.fb_inputs.specs.Read.{ReadsDisk, ReadsScript, ReadsTrace, inputs_of_files, key_of}
 use Rattle.fb_top.proofs.OneRun.{one_disk, one_trace, one_value}
 use Rattle.fb_top.proofs.OneSection.{device_reads, devices_promote_none}
 use Rattle.fb_top.proofs.SameText.{same_text}

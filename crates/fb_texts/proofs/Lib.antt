@@ -1,0 +1,5 @@
+pub mod Counted
+pub mod Each
+pub mod Fronts
+pub mod Sections
+pub mod Texts

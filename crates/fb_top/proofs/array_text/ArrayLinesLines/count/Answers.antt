@@ -1,7 +1,0 @@
-use Rattle.std.proofs.Common.{arith}
-use Rattle.fb_top.proofs.Sections.{array_counted}
-use Rattle.fb_top.proofs.array_text.ArrayLinesLines.count.Goals as goal
-
-pub returns-clause-value : goal.returns-clause-value
-returns-clause-value c = let lines = c.args.self.now in
-    omega (arith, c.section_lines.ensures.lines lines.sector_bytes lines.bytes, array_counted lines.sector_bytes lines.bytes lines.runs.now)

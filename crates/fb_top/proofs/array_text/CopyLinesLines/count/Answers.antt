@@ -1,5 +1,0 @@
-use Rattle.std.proofs.Common.{arith}
-use Rattle.fb_top.proofs.array_text.CopyLinesLines.count.Goals as goal
-
-pub returns-clause-ends : goal.returns-clause-ends
-returns-clause-ends c = omega (arith, c.copy_pieces.ensures 0)
