@@ -12,8 +12,6 @@ use Rattle.fb_puts.specs.declared.fault.PutsFault.{PutsFault}
 use Rattle.fb_report.specs.Forms.{grammar_of}
 use Rattle.fb_report.specs.Grammar.{LineFields, fore_grammar}
 use Rattle.fb_report.specs.declared.reading.ReportsFault.{ReportsFault}
-use Rattle.fb_units.specs.declared.read_error.ReadError.{ReadError}
-use Rattle.fb_units.specs.declared.read_error.ReadError.TheVariants as errors
 use Rattle.fb_inputs.specs.declared.error.InputsError.{InputsError}
 use Rattle.fb_inputs.specs.declared.error.InputsError.TheVariants as faults
 use Rattle.fb_streams.specs.Names.{FileNames, InputNames, name_of}
@@ -159,11 +157,6 @@ StopsPuts name files old new error = IsFault faults.Puts (RefusesPuts old name f
 -- why no puts were read where they are given
 abbrev pub StopsGivenPuts : Option (List ℕ) → Files → DeskView → DeskView → InputsError → Type 0
 StopsGivenPuts given files old new error = (name : List ℕ) × (given ≡ Some name) × StopsPuts name files old new error
-
--- the error where a text is no report
-abbrev pub refused_as : ReadError ReportsFault → InputsError
-refused_as (errors.Fault fault) = faults.Reports fault
-refused_as errors.NoMemory = faults.NoMemory
 
 -- a report is refused, from a line of it
 abbrev pub RefusesLine : Input → List ℕ → DeskView → ReportsFault → Type 0

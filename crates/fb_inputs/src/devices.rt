@@ -67,7 +67,13 @@ pub fn read_array<D: Desk>(
 {
     let params = read_disk(alloc, desk, words.params.as_str())?;
     params.disk.map.geometry().sound();
-    let traces = read_devices(alloc, desk, words.trace.as_str(), words.devices, &params.disk)?;
+    let traces = read_devices(
+        alloc,
+        desk,
+        words.trace.as_str(),
+        words.devices,
+        &params.disk,
+    )?;
     let calls = read_rebuild(alloc, words, &params.disk, traces.as_slice())?;
     Ok(ArrayFiles {
         params,

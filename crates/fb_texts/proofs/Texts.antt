@@ -33,10 +33,6 @@ module _ (which : Output) (name text : List ℕ) (old new : DeskView) (only : Ch
     front = front;
   }
 
--- or none
-pub wrote_none : (desk : DeskView) → WritesAll [] desk desk
-wrote_none desk = record { others = λ output not_them no_note. refl; whole = tt }
-
 pub all_given : (P : Output → Type 0) (output : Output) (given : Option (List ℕ)) (text : List ℕ) → P output
     → AllByRecursion (λ text. P text.output) (given_text output given text)
 all_given P output None text h = tt

@@ -27,7 +27,7 @@ use Rattle.fb_puts.specs.Reading.{puts_of}
 use Rattle.fb_puts.specs.declared.fault.PutsFault.{PutsFault}
 use Rattle.fb_inputs.specs.Read.{ReadsDisk, RefusesDisk, RefusesReport, ReadsCalls, ReadsScript, puts_terms}
 use Rattle.fb_streams.specs.Streams.{IsLonger}
-use Rattle.fb_top.specs.Spilled.{IsCut, replay_texts}
+use Rattle.fb_top.specs.Spilled.{IsReplayCut, replay_texts}
 use Rattle.fb_inputs.specs.Causes.{AcceptsDisk, AcceptsTrace, IsTooLong, RefusesTraceInTurn}
 use Rattle.fb_top.specs.Causes.{CheckHasCause, HasCause}
 use Rattle.fb_inputs.specs.Causes.{RefusesCallsInTurn, RefusesPutsInTurn, RefusesReportInTurn, StopsInputs}
@@ -227,7 +227,7 @@ module _ (old new : DeskView) (terms : InputNames) (well : ReadsWell old new ter
   goes_on inputs.NoMemory cause = refl
 
 module _ (old new : DeskView) (terms : ReplayTerms) (well : GoesWell old new terms) where
-  not_cut : (output : Output) → IsCut old new terms (faults.WriteFault output) → ⊥
+  not_cut : (output : Output) → IsReplayCut old new terms (faults.WriteFault output) → ⊥
   not_cut output cut =
       let texts = replay_texts terms cut.is_run.files cut.run cut.spill in
       let calm = all_replay (λ which. OutputFaultsRose old new which → ⊥) terms cut.is_run.files cut.run cut.spill well.fore well.back

@@ -10,7 +10,7 @@ use Rattle.fb_desk.specs.declared.desk.Output.TheVariants.{Note}
 use Rattle.fb_top.specs.declared.outcome.Outcome.{Outcome}
 use Rattle.fb_top.specs.declared.outcome.Outcome.TheVariants as outcomes
 use Rattle.fb_streams.specs.Streams.{KeepsReports}
-use Rattle.fb_top.specs.Spilled.{IsCut, replay_texts}
+use Rattle.fb_top.specs.Spilled.{IsReplayCut, replay_texts}
 use Rattle.fb_streams.specs.Names.{InputNames, replay_names, check_names, array_names}
 use Rattle.fb_top.specs.Checked.{IsVerdictCut, check_texts}
 use Rattle.fb_top.specs.Causes.{CheckHasCause, HasCause}
@@ -63,7 +63,7 @@ module _ (terms : ReplayTerms) (old mid new : DeskView) (only : ChangesOutput No
   same : KeepsReports old old
   same = λ output no_note. refl
 
-  cut_still : (error : TextsError) → IsCut old mid terms error → IsCut old new terms error
+  cut_still : (error : TextsError) → IsReplayCut old mid terms error → IsReplayCut old new terms error
   cut_still error cut = record {
     run = cut.run;
     is_run = cut.is_run;

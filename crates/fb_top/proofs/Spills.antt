@@ -23,7 +23,7 @@ use Rattle.fb_texts.proofs.Texts.{all_given, stopped_sooner, stops_texts, then_t
 use Rattle.fb_top.specs.Causes.{HasCause}
 use Rattle.fb_top.specs.Done.{AreReadBack, CanBeRead, IsRunOf, back_told, report_texts}
 use Rattle.fb_top.specs.Ends.{unwritten}
-use Rattle.fb_top.specs.Spilled.{IsCut, IsSpillOf, WritesGiven, replay_texts, spill_told}
+use Rattle.fb_top.specs.Spilled.{IsReplayCut, IsSpillOf, WritesGiven, replay_texts, spill_told}
 use Rattle.fb_top.specs.Taken.{TakesReplay, done_as}
 use Rattle.fb_top.proofs.Readable.{run_can_be_read}
 use Rattle.fb_inputs.proofs.Account.{ends_at}
@@ -105,7 +105,7 @@ module _ (terms : ReplayTerms) (files : Files) (puts : Option PutsRead) (old mid
       abbrev texts : List Text
       texts = replay_texts terms files run given
 
-      is_cut : (error : TextsError) → StopsTexts texts mid new error → IsCut old new terms error
+      is_cut : (error : TextsError) → StopsTexts texts mid new error → IsReplayCut old new terms error
       is_cut error stops = record {
         run = run;
         is_run = is_run;

@@ -69,7 +69,7 @@ pub record IsSpilled (old new : DeskView) (terms : ReplayTerms) (run : Run) (spi
   pub read : AreReadBack terms is_run.files run
 
 -- there is such a run and, where the words name puts, these are accepted and there are such spills; and their texts were not all written
-pub record IsCut (old new : DeskView) (terms : ReplayTerms) (error : TextsError) : Type 0 where
+pub record IsReplayCut (old new : DeskView) (terms : ReplayTerms) (error : TextsError) : Type 0 where
   pub run : Run
   pub is_run : IsRunOf old terms run
   pub puts : Option PutsRead

@@ -22,8 +22,8 @@ ghost use Rattle.fb_texts.specs.Written.{WritesTexts};
 ghost use Rattle.fb_streams.specs.Called.{Asked, array_asks, Ends};
 ghost use Rattle.fb_top.specs.Ends.{EndsAs};
 
-use crate::{Outcome, Runs};
 use crate::policy::replay_by;
+use crate::{Outcome, Runs};
 use fb_decide::RunInputs;
 use fb_desk::{Desk, Output};
 use fb_inputs::{ArrayFiles, no_calls, read_array};

@@ -11,12 +11,12 @@ ghost use Rattle.fb_top.specs.Ended.{EndsWith};
 ghost use Rattle.fb_top.specs.Ends.{EndsAs, EndsWithNote};
 ghost use Rattle.fb_streams.specs.Called.{asked_by};
 
-use crate::{Outcome, status};
 use crate::array::run_array;
 use crate::check::run_check;
 use crate::make::run_make;
 use crate::noting::write_note;
 use crate::replay::run_replay;
+use crate::{Outcome, status};
 use fb_desk::{Desk, Output};
 use fb_words::{Command, WordsError, read_words};
 use std::alloc::Global;
