@@ -44,16 +44,9 @@ pub fn params_of_table(
 {
     let map = SectorMap::new(alloc, geometry_of(alloc, layout, table)?)?;
     let geometry = map.geometry();
-    geometry.sound();
     let mechanism = mechanism_of(alloc, geometry.cylinders(), table)?;
     let latent = latent_of(alloc, map.count(), elements_at(table, "latent"))?;
     let sector_bytes = small_number_at(table, "sector_bytes");
-    Ok(Parameters {
-        disk: Disk {
-            map,
-            mechanism,
-            sector_bytes,
-        },
-        latent,
-    })
+    let disk = Disk::new(map, mechanism, sector_bytes);
+    Ok(Parameters { disk, latent })
 }

@@ -61,16 +61,10 @@ const POINTS: &[SeekPoint] = &[
 fn disk_of(alloc: Global, geometry: Geometry) -> Result<Disk, Fail> {
     let points = POINTS.to_vec(alloc)?;
     let map = SectorMap::new(alloc, geometry)?;
-    // A disk has at most 10^12 sectors.
-    let _sectors = map.count();
     let geometry = map.geometry();
-    geometry.sound();
     let mechanism = Mechanism::new(points, geometry.cylinders(), 200, 50)?;
-    Ok(Disk {
-        map,
-        mechanism,
-        sector_bytes: 16,
-    })
+    let disk = Disk::new(map, mechanism, 16);
+    Ok(disk)
 }
 
 // A small disk: where its spares are, its zone, and its bad slots.

@@ -44,20 +44,13 @@ fn small_disk(alloc: Global) -> Result<Disk, Fail> {
         Vec::new(alloc),
     )?;
     let map = SectorMap::new(alloc, geometry)?;
-    // A disk has at most 10^12 sectors.
-    let _sectors = map.count();
-    let geometry = map.geometry();
-    geometry.sound();
     let mut points = Vec::new(alloc);
     for (distance, time) in [(1, 300), (3, 500)] {
         points.push(SeekPoint { distance, time })?;
     }
-    let mechanism = Mechanism::new(points, geometry.cylinders(), 200, 50)?;
-    Ok(Disk {
-        map,
-        mechanism,
-        sector_bytes: 16,
-    })
+    let mechanism = Mechanism::new(points, map.geometry().cylinders(), 200, 50)?;
+    let disk = Disk::new(map, mechanism, 16);
+    Ok(disk)
 }
 
 // Whether the disk has all requests and tracks that are drawn.

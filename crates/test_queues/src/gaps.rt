@@ -107,18 +107,12 @@ fn disk_of(alloc: Global, setting: &Setting) -> Result<Option<Disk>, NoMemory> {
         Ok(geometry) => SectorMap::new(alloc, geometry)?,
         Err(_) => return Ok(None),
     };
-    let geometry = map.geometry();
-    geometry.sound();
-    let _count = map.count();
     let points = setting.seek.to_vec(alloc)?;
-    match Mechanism::new(points, geometry.cylinders(), 200, 50) {
-        Ok(mechanism) => Ok(Some(Disk {
-            map,
-            mechanism,
-            sector_bytes: 16,
-        })),
-        Err(_) => Ok(None),
-    }
+    let Ok(mechanism) = Mechanism::new(points, map.geometry().cylinders(), 200, 50) else {
+        return Ok(None);
+    };
+    let disk = Disk::new(map, mechanism, 16);
+    Ok(Some(disk))
 }
 
 // The task's next block; `None` where the wish isn't exactly one block of the disk.

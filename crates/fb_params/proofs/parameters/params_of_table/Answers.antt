@@ -13,49 +13,32 @@ small_number_at-sector_bytes-requires c =
     let number = sector_bytes-number c.args.layout (table_view c.args.table.now) c.requires.present c.requires.kind c.requires.range in
     omega (arith, number.few)
 
-pub invariant_of-result-clause-whole_sectors : goal.invariant_of-result-clause-whole_sectors
-invariant_of-result-clause-whole_sectors c =
+pub new-disk-requires-clause-whole_sectors : goal.new-disk-requires-clause-whole_sectors
+new-disk-requires-clause-whole_sectors c =
     let number = sector_bytes-number c.args.layout (table_view c.args.table.now) c.requires.present c.requires.kind c.requires.range in
     ap (λ n. n % 16) c.small_number_at-sector_bytes.ensures ∙ number.whole
 
-pub invariant_of-result-clause-some_bytes : goal.invariant_of-result-clause-some_bytes
-invariant_of-result-clause-some_bytes c =
+pub new-disk-requires-clause-some_bytes : goal.new-disk-requires-clause-some_bytes
+new-disk-requires-clause-some_bytes c =
     let number = sector_bytes-number c.args.layout (table_view c.args.table.now) c.requires.present c.requires.kind c.requires.range in
     omega (arith, number.some, c.small_number_at-sector_bytes.ensures)
 
-pub invariant_of-result-clause-few_bytes : goal.invariant_of-result-clause-few_bytes
-invariant_of-result-clause-few_bytes c =
+pub new-disk-requires-clause-few_bytes : goal.new-disk-requires-clause-few_bytes
+new-disk-requires-clause-few_bytes c =
     let number = sector_bytes-number c.args.layout (table_view c.args.table.now) c.requires.present c.requires.kind c.requires.range in
     omega (arith, number.few, c.small_number_at-sector_bytes.ensures)
 
-pub invariant_of-result-clause-same_cylinders : goal.invariant_of-result-clause-same_cylinders
-invariant_of-result-clause-same_cylinders c =
+pub new-disk-requires-clause-same_cylinders : goal.new-disk-requires-clause-same_cylinders
+new-disk-requires-clause-same_cylinders c =
     c.in_ok-mechanism.ensures.cylinders ∙ c.cylinders.ensures.value ∙ ap (λ map. cylinders_of map.zones) c.geometry-geometry.ensures
-
-pub invariant_of-result-clause-some_cylinders : goal.invariant_of-result-clause-some_cylinders
-invariant_of-result-clause-some_cylinders c =
-    omega (arith, c.cylinders.ensures.some, c.cylinders.ensures.value, ap (λ map. cylinders_of map.zones) c.geometry-geometry.ensures)
-
-pub invariant_of-result-clause-some_heads : goal.invariant_of-result-clause-some_heads
-invariant_of-result-clause-some_heads c = omega (arith, c.sound.ensures.some_heads, ap (λ map. map.heads) c.geometry-geometry.ensures)
-
-pub invariant_of-result-clause-some_rotation : goal.invariant_of-result-clause-some_rotation
-invariant_of-result-clause-some_rotation c =
-    omega (arith, c.sound.ensures.some_rotation, ap (λ map. map.rotation) c.geometry-geometry.ensures)
-
-pub invariant_of-result-clause-short_rotation : goal.invariant_of-result-clause-short_rotation
-invariant_of-result-clause-short_rotation c =
-    omega (arith, c.sound.ensures.short_rotation, ap (λ map. map.rotation) c.geometry-geometry.ensures)
-
-pub invariant_of-result-clause-few_blocks : goal.invariant_of-result-clause-few_blocks
-invariant_of-result-clause-few_blocks c = omega (arith, c.count.ensures.bound, c.count.ensures.value)
 
 pub returns-clause-value : goal.returns-clause-value
 returns-clause-value c =
     let table = table_view c.args.table.now in
     let map = c.in_ok-map.map in
     let cylinders = c.cylinders.ensures.value ∙ ap (λ map. cylinders_of map.zones) c.geometry-geometry.ensures in
-    rw c.small_number_at-sector_bytes.ensures (described c.args.layout table map _ _
+    rw (c.new-disk.ensures.map, c.new-disk.ensures.mechanism, c.new-disk.ensures.sector_bytes ∙ c.small_number_at-sector_bytes.ensures)
+    (described c.args.layout table map _ _
     (c.in_ok-geometry_of.ensures ∙ ap Ok (sym c.in_ok-map.ensures))
     (ap (λ n. possible_arm (mechanics_of n table)) (sym cylinders) ∙ c.in_ok-mechanism.ensures.value)
     (rw (c.count.ensures.value, c.elements_at.ensures) at c.in_ok-latent.ensures.value))
@@ -64,4 +47,4 @@ pub returns-clause-latent_rises : goal.returns-clause-latent_rises
 returns-clause-latent_rises c = c.in_ok-latent.ensures.rises
 
 pub returns-clause-latent_on_disk : goal.returns-clause-latent_on_disk
-returns-clause-latent_on_disk c = rw c.count.ensures.value at c.in_ok-latent.ensures.on_disk
+returns-clause-latent_on_disk c = rw c.new-disk.ensures.map (rw c.count.ensures.value at c.in_ok-latent.ensures.on_disk)
