@@ -1,5 +1,5 @@
 -- What a sector holds, according to where the ranges begin.
-use Rattle.std.proofs.Common.{◌≡◌, ◌≢◌, ℕ, ◌<◌, ◌≤◌, Option, Some, None, refl, false, arith, sym, ap, ap₂, ◌∙◌, suc, zero, inl, inr, rules}
+use Rattle.std.proofs.Common.{◌≡◌, ◌≢◌, ℕ, ◌<◌, ◌≤◌, Option, Some, None, refl, false, Less, arith, sym, ap, ap₂, ◌∙◌, suc, zero, inl, inr, rules}
 use Rattle.std.specs.Option.{unwrap_or, IsSome}
 use Rattle.std.specs.Ordering.{nat_cmp, is_gt, is_lt}
 use Rattle.std.specs.BTreeMap.{is_at}
@@ -63,6 +63,9 @@ not_above a b e = grind (arith, nat_tests)
 
 pub is_not_above : (a b : ℕ) → a ≤ b → is_gt (nat_cmp a b) ≡ false
 is_not_above a b le = grind (arith, nat_tests)
+
+pub is_below : (a b : ℕ) → a < b → nat_cmp a b ≡ Less
+is_below a b less = grind (arith, nat_tests)
 
 pub not_below : (a b : ℕ) → is_lt (nat_cmp a b) ≡ false → b ≤ a
 not_below a b e = grind (arith, nat_tests)

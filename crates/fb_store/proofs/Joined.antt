@@ -1,12 +1,12 @@
 -- A run behind the fewest runs joins the last of them, or becomes a run of its own.
-use Rattle.std.proofs.Common.{◌≡◌, ℕ, ◌+◌, ◌<◌, List, [], ◌∷◌, ◌++◌, refl, true, false, true≢false, Bool, cond, arith, sym, ap, ap₂, ◌∙◌}
+use Rattle.std.proofs.Common.{◌≡◌, ℕ, ◌+◌, ◌-◌, ◌<◌, ◌≤◌, List, [], ◌∷◌, ◌++◌, refl, true, false, true≢false, Bool, cond, arith, sym, ap, ap₂, ◌∙◌}
 use Rattle.std.proofs.Common.{◌&&◌, ◌==◌, suc, zero, eqb→eq, length, get_or, set, Some, slice_get}
 use Rattle.std.proofs.lemmas.Option.{get_or_from_slice_get}
 use Rattle.fb_store.specs.declared.content.Content.{Content}
 use Rattle.fb_store.specs.declared.content.ContentRun.{ContentRun}
-use Rattle.fb_store.specs.Runs.{same_content, with_content, runs_of, sectors_of, sectors_in, joins, last_joins}
+use Rattle.fb_store.specs.Runs.{same_content, with_content, runs_of, sectors_of, sectors_in, joins, last_joins, IsRun}
 use Rattle.fb_store.proofs.Runs.{so, left, right, is_same, sectors_of-runs_of}
-use Rattle.fb_store.proofs.Longest.{run_of, run_ahead}
+use Rattle.fb_store.proofs.Longest.{held, run_of, run_ahead}
 
 abbrev pub longer : ContentRun → ContentRun → ContentRun
 longer last run = record { first = last.first; count = last.count + run.count; content = last.content }
@@ -122,3 +122,37 @@ pub fewest-again : (sectors : List (ℕ × Content)) (runs : List ContentRun) �
 fewest-again sectors runs e =
     let own = ap sectors_of e ∙ sectors_of-runs_of sectors in
     (own, e ∙ ap runs_of (sym own))
+
+-- the contents of neighbouring sectors
+held_split : (content_of : ℕ → Content) (first m n : ℕ) → held content_of first (m + n)
+    ≡ held content_of first m ++ held content_of (first + m) n
+held_split content_of first zero n =
+    let at : first + 0 ≡ first = omega arith in
+    let all : 0 + n ≡ n = omega arith in
+    rw (at, all) refl
+held_split content_of first (suc m) n =
+    let at : first + 1 + m ≡ first + suc m = omega arith in
+    let all : suc m + n ≡ suc (m + n) = omega arith in
+    rw all (ap (λ rest. (first, content_of first) ∷ rest) (held_split content_of (first + 1) m n
+    ∙ ap (λ lbn. held content_of (first + 1) m ++ held content_of lbn n) at))
+
+-- the sectors of a run hold its content
+held_same : (content_of : ℕ → Content) (first n : ℕ) (content : Content)
+    → ((lbn : ℕ) → first ≤ lbn → lbn < first + n → content_of lbn ≡ content)
+    → sectors_in (run_of first n content) ≡ held content_of first n
+held_same content_of first zero content all = refl
+held_same content_of first (suc n) content all =
+    ap₂ (λ c rest. (first, c) ∷ rest) (sym (all first (omega arith) (omega arith)))
+    (held_same content_of (first + 1) n content (λ lbn from to. all lbn (omega arith) (omega arith)))
+
+-- the runs so far and a run at the next sector make the runs up to its end
+pub one_more : (content_of : ℕ → Content) (first lbn end : ℕ) (run : ContentRun) (runs more : List ContentRun) → first ≤ lbn
+    → IsRun content_of lbn end run → runs ≡ runs_of (held content_of first (lbn - first))
+    → more ≡ runs_of (sectors_of runs ++ sectors_in run)
+    → more ≡ runs_of (held content_of first (lbn + run.count - first))
+one_more content_of first lbn end run runs more from is so_far next =
+    let at : first + (lbn - first) ≡ run.first = let here = is.from in omega arith in
+    let all : lbn - first + run.count ≡ lbn + run.count - first = omega arith in
+    next ∙ ap runs_of (ap₂ (λ before its. before ++ its) (fewest-again (held content_of first (lbn - first)) runs so_far).0
+    (held_same content_of run.first run.count run.content is.same ∙ ap (λ l. held content_of l run.count) (sym at))
+    ∙ (sym (held_split content_of first (lbn - first) run.count) ∙ ap (held content_of first) all))

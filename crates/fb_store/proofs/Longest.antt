@@ -1,15 +1,14 @@
--- The first of the fewest runs is the longest one at the first sector.
-use Rattle.std.proofs.Common.{◌≡◌, ℕ, ◌+◌, ◌-◌, ◌<◌, ◌≤◌, List, [], ◌∷◌, ◌++◌, refl, true, false, map, Bool, cond, arith, sym, ap, ap₂, ◌∙◌}
-use Rattle.std.proofs.Common.{◌&&◌, ◌==◌, suc, zero, eqb→eq, inl, inr, append_assoc, append-nil}
+-- The fewest runs of neighbouring sectors.
+use Rattle.std.proofs.Common.{◌≡◌, ℕ, ◌+◌, ◌<◌, ◌≤◌, List, [], ◌∷◌, refl, true, false, map, Bool, cond, arith, sym, ap, ap₂, ◌∙◌}
+use Rattle.std.proofs.Common.{◌&&◌, ◌==◌, suc, zero, eqb→eq}
 use Rattle.std.specs.List.{range_with_len, sum_by, AllByRecursion}
 use Rattle.std.proofs.lemmas.Bool.Decides.{nat_tests}
 use Rattle.std.proofs.lemmas.List.Sums.{sum_by-cons}
-use Rattle.std.proofs.lemmas.Bool.{cases_lt}
 use Rattle.fb_store.specs.declared.content.Content.{Content}
 use Rattle.fb_store.specs.declared.content.Content.TheVariants.{Filled, Unreadable}
 use Rattle.fb_store.specs.declared.content.ContentRun.{ContentRun}
-use Rattle.fb_store.proofs.Runs.{so, left, is_same, joined}
-use Rattle.fb_store.specs.Runs.{same_content, with_content, runs_of, IsRun, IsLongestRun}
+use Rattle.fb_store.proofs.Runs.{so, left, joined}
+use Rattle.fb_store.specs.Runs.{same_content, with_content, runs_of}
 
 -- n sectors from the first on, each with its content
 abbrev pub held : (ℕ → Content) → ℕ → ℕ → List (ℕ × Content)
@@ -73,28 +72,6 @@ run_ahead content_of first (suc n) rest m content parts all next =
     ∙ (joins_next first (suc n) content (runs_of (held content_of (first + 1 + suc n) rest))
     ∙ ap₂ (λ count lbn. run_of first count content ∷ runs_of (held content_of lbn rest)) more place))
 
-longest_of : (content_of : ℕ → Content) (first end count : ℕ) (content : Content) → 0 < count → first + count ≤ end
-    → ((lbn : ℕ) → first ≤ lbn → lbn < first + count → content_of lbn ≡ content)
-    → (first + count < end → same_content content (content_of (first + count)) ≡ false)
-    → runs_of (held content_of first (end - first)) ≡ run_of first count content
-    ∷ runs_of (held content_of (first + count) (end - (first + count)))
-longest_of content_of first end zero content some within all next = absurd (omega arith)
-longest_of content_of first end (suc n) content some within all next =
-    let parts : end - first ≡ suc (n + (end - (first + suc n))) = omega arith in
-    ap (λ k. runs_of (held content_of first k)) parts
-    ∙ run_ahead content_of first n (end - (first + suc n)) (n + (end - (first + suc n))) content refl all (λ more. next (omega arith))
-
--- the first of the fewest runs is the longest one
-pub runs_of-longest : (content_of : ℕ → Content) (first end : ℕ) (run : ContentRun) → IsLongestRun content_of first end run
-    → runs_of (held content_of first (end - first)) ≡ run ∷ runs_of (held content_of (first + run.count) (end - (first + run.count)))
-runs_of-longest content_of first end run is =
-    let from = is.is_run.from in
-    let at : run.first + run.count ≡ first + run.count = omega arith in
-    longest_of content_of first end run.count run.content is.is_run.some (let within = is.is_run.within in omega arith)
-    (λ lbn a b. is.is_run.same lbn (omega arith) (omega arith))
-    (λ more. ap (λ lbn. same_content run.content (content_of lbn)) (sym at) ∙ is.longest (omega arith))
-    ∙ ap (λ lbn. run_of lbn run.count run.content ∷ runs_of (held content_of (first + run.count) (end - (first + run.count)))) (sym from)
-
 abbrev count_of : ContentRun → ℕ
 count_of run = run.count
 
@@ -147,36 +124,3 @@ ends-runs_of-held content_of first zero bound within = tt
 ends-runs_of-held content_of first (suc n) bound within =
     ends_with first bound (content_of first) (runs_of (held content_of (first + 1) n)) (omega arith)
     (ends-runs_of-held content_of (first + 1) n bound (omega arith))
-
--- a run and a run of the same content right behind it make one run
-pub IsRun-joined : (content_of : ℕ → Content) (first end : ℕ) (run next : ContentRun) → IsRun content_of first end run
-    → IsRun content_of (run.first + run.count) end next
-    → same_content run.content next.content ≡ true
-    → IsRun content_of first end (record { first = run.first; count = run.count + next.count; content = run.content })
-IsRun-joined content_of first end run next is more same =
-    let some = is.some in let from = more.from in let within = more.within in
-    record {
-      from = is.from;
-      some = omega arith;
-      within = omega arith;
-      same = λ lbn a b. elim (cases_lt lbn (run.first + run.count)) [
-        | inl before ↦ is.same lbn a before
-        | inr after ↦ more.same lbn (omega arith) (omega arith) ∙ sym (is_same run.content next.content same)
-      ];
-    }
-
--- the runs so far and the longest run at the next sector, followed by the runs of the rest, are the runs of the whole
-pub one_more : (content_of : ℕ → Content) (lbn end : ℕ) (run : ContentRun) (runs more : List ContentRun)
-    → IsLongestRun content_of lbn end run → more ≡ runs ++ run ∷ []
-    → more ++ runs_of (held content_of (lbn + run.count) (end - (lbn + run.count))) ≡ runs ++ runs_of (held content_of lbn (end - lbn))
-one_more content_of lbn end run runs more is e =
-    let rest = runs_of (held content_of (lbn + run.count) (end - (lbn + run.count))) in
-    ap (λ all. all ++ rest) e
-    ∙ (append_assoc runs (run ∷ []) rest ∙ ap (λ all. runs ++ all) (sym (runs_of-longest content_of lbn end run is)))
-
--- if no sector is left, the runs so far are the runs of the whole
-pub all_runs : (content_of : ℕ → Content) (lbn end : ℕ) (runs : List ContentRun) → end ≤ lbn
-    → runs ≡ runs ++ runs_of (held content_of lbn (end - lbn))
-all_runs content_of lbn end runs past =
-    let none : end - lbn ≡ 0 = omega arith in
-    sym (ap (λ k. runs ++ runs_of (held content_of lbn k)) none ∙ append-nil runs)

@@ -71,8 +71,3 @@ pub record IsRun (content_of : ℕ → Content) (first end : ℕ) (run : Content
   pub some : 0 < run.count
   pub within : run.first + run.count ≤ end
   pub same : (lbn : ℕ) → run.first ≤ lbn → lbn < run.first + run.count → content_of lbn ≡ run.content
-
--- such a run that the sector behind it, if that is before the end, doesn't continue
-pub record IsLongestRun (content_of : ℕ → Content) (first end : ℕ) (run : ContentRun) : Type 0 where
-  pub is_run : IsRun content_of first end run
-  pub longest : run.first + run.count < end → same_content run.content (content_of (run.first + run.count)) ≡ false

@@ -32,6 +32,29 @@ pub fn next_begin(ranges: &BTreeMap<u64, Option<Content>>, lbn: u64, end: u64) -
     }
 }
 
+/// The content of the range that a sector is in, if it has one, and where the first range behind the sector begins; the end
+/// if it begins no earlier.
+///
+/// This takes one search where no range begins between the sector and the end.
+pub fn held_up_to(
+    ranges: &BTreeMap<u64, Option<Content>>,
+    lbn: u64,
+    end: u64,
+) -> (Option<Content>, u64)
+    requires { lbn < end }
+    ensures held { result.0 ≡ held_of (get nat_cmp ranges.now) lbn }
+    ensures above { lbn < result.1 }
+    ensures within { result.1 ≤ end }
+    ensures least { (begin : ℕ) → ContainsKey nat_cmp ranges.now begin → lbn < begin → result.1 ≤ begin }
+{
+    if let Some((begin, held)) = ranges.range(..end).next_back() {
+        if *begin <= lbn {
+            return (*held, end);
+        }
+    }
+    (held_at(ranges, lbn), next_begin(ranges, lbn, end))
+}
+
 /// Makes a range begin at a sector, with the content that the sector has. Out of memory, no content
 /// has changed.
 pub fn cut(ranges: &mut BTreeMap<u64, Option<Content>>, at: u64) -> Result<(), NoMemory>

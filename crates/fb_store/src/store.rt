@@ -6,10 +6,9 @@ ghost use Rattle.std.specs.List.{range_with_len, sum_by};
 ghost use Rattle.fb_store.specs.declared.content.Content.{Content};
 ghost use Rattle.fb_store.specs.Writes.{unwritten, after_write};
 ghost use Rattle.fb_store.specs.Ranges.{content_in};
-ghost use Rattle.fb_store.specs.Runs.{runs_of, same_content, ArePacked, IsRun, IsLongestRun};
+ghost use Rattle.fb_store.specs.Runs.{runs_of, ArePacked, IsRun};
 
-use crate::content::is_same;
-use crate::ranges::{held_at, next_begin, write};
+use crate::ranges::{held_at, held_up_to, write};
 use crate::{Content, ContentRun, Contents};
 use fb_units::NoMemory;
 use std::alloc::{AllocError, Global};
@@ -78,28 +77,11 @@ impl Store {
         let mut runs = Contents::new(alloc);
         let mut lbn = first;
         while lbn < end {
-            let run = self.run_at(lbn, end);
+            let run = self.run_in_range(lbn, end);
             lbn += run.count;
-            runs.push(run)?;
+            runs.join(run)?;
         }
         Ok(runs)
-    }
-
-    // The sectors from the first on, before the end, that hold the same as the first.
-    fn run_at(&self, first: u64, end: u64) -> ContentRun
-        requires first_in { first < end }
-        requires end_in { end ≤ 10 ^ 12 }
-        ensures { IsLongestRun (content_in self.now) first end result }
-    {
-        let mut run = self.run_in_range(first, end);
-        while run.first + run.count < end {
-            let next = self.run_in_range(run.first + run.count, end);
-            if !is_same(run.content, next.content) {
-                return run;
-            }
-            run.count += next.count;
-        }
-        run
     }
 
     // Sectors from the first on, before the end, that hold the same as the first: up to the next
@@ -108,8 +90,8 @@ impl Store {
         requires { first < end }
         ensures { IsRun (content_in self.now) first end result }
     {
-        let stop = next_begin(&self.ranges, first, end);
-        match held_at(&self.ranges, first) {
+        let (held, stop) = held_up_to(&self.ranges, first, end);
+        match held {
             Some(content) => ContentRun {
                 first,
                 count: stop - first,

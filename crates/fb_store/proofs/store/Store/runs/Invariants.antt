@@ -1,4 +1,4 @@
-use Rattle.std.proofs.Common.{◌≡◌, ◌≤◌, ◌+◌, ◌++◌, ◌-◌}
+use Rattle.std.proofs.Common.{◌≡◌, ◌≤◌, ◌+◌, ◌-◌}
 use Rattle.fb_store.specs.Ranges.{content_in}
 use Rattle.fb_store.specs.Runs.{runs_of}
 use Rattle.fb_store.proofs.Longest.{held}
@@ -9,7 +9,7 @@ invariant-loop-lbn l = record {
   bounds : l.lbn ≤ l.end;
   from : l.first ≤ l.lbn;
   stop : l.end ≡ l.first + l.count;
-  so_far : l.runs ++ runs_of (held (content_in l.self) l.lbn (l.end - l.lbn)) ≡ runs_of (held (content_in l.self) l.first l.count);
+  so_far : l.runs ≡ runs_of (held (content_in l.self) l.first (l.lbn - l.first));
 }
 
 abbrev pub decreases-loop-lbn : goal.decreases-loop-lbn
