@@ -2,6 +2,8 @@ pub mod Words
 pub mod Sums
 pub mod Values
 pub mod Written
+pub mod ByAngle
+pub mod Kept
 pub mod Choices
 pub mod Depths
 pub mod Dividing

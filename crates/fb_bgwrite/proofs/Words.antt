@@ -3,6 +3,7 @@ pub use Rattle.std.proofs.Common.{Bool, Bor, Err, IfOk, List, None, Ok, OnErr, O
 pub use Rattle.std.proofs.Common.{ap₂, arith, drop, false, filter, get_or, if◌then◌else◌, inl, inr, length, map, max, min, not, refl}
 pub use Rattle.std.proofs.Common.{slice_get, subst, suc, sym, take, true, zero, ℕ, ◌&&◌, ◌*◌, ◌++◌, ◌+◌, ◌-◌, ◌/◌, ◌<◌, ◌==◌, ◌^◌, ◌||◌}
 pub use Rattle.std.proofs.Common.{◌∙◌, ◌∷◌, ◌≡◌, ◌≢◌, ◌≤◌, ◌⊎◌}
+pub use Rattle.std.proofs.Common.{rules}
 pub use Rattle.std.specs.List.{AllByRecursion, count_by, flat_map, fold, list_any, range_with_len, slice_index_or, sum_by}
 pub use Rattle.std.specs.Option.{option_map}
 pub use Rattle.std.specs.Prelude.{nat_le, nat_lt}

@@ -6,6 +6,7 @@ use Rattle.fb_bgwrite.proofs.Words.{sym, ap, ◌∙◌, subst, arith, if◌then�
 use Rattle.fb_bgwrite.proofs.Words.{slice_get_within, same_track, Sweep, Track, Disk, Block, Entry, is_wanted, on_track, Offer, AreOffers}
 use Rattle.fb_bgwrite.proofs.Words.{Dwell, block_end, AreOnDisk, IsBlockOn, Turning, IsTurning, added, end_of, passes_by}
 use Rattle.fb_bgwrite.proofs.Words.{stay_gain, some_one, OneEndsAt, IsLastEnd}
+use Rattle.fb_bgwrite.specs.ByAngle.{IsLastOf}
 use Rattle.fb_plan.proofs.{Gains.adds}
 use Rattle.fb_plan.proofs.{Offered.block-of, Offered.entry-of, Offered.offer-of, Offered.sum-offered, Offered.wanted-at}
 use Rattle.fb_plan.proofs.Swept.{turning-end}
@@ -13,58 +14,65 @@ use Rattle.fb_bgwrite.proofs.Values.{passes, EndsAt, IsLast}
 
 -- ---- the loop over the offers
 
--- the same as IsLastEnd for the first of the offers
-pub record IsLastOf (turning : Turning) (latest : ℕ) (offers : List Offer) (n worth last : ℕ) : Type 0 where
-  pub from : turning.from ≤ last
-  pub upto : last ≤ latest
-  pub each : (i : ℕ) (offer : Offer) → i < n → slice_get offers i ≡ Some offer → end_of turning.rotation offer.sweep turning.from ≤ latest
-      → end_of turning.rotation offer.sweep turning.from ≤ last
-  pub reached : ((worth ≡ 0) × (last ≡ turning.from)) ⊎ OneEndsAt turning offers last
-
 module _ (turning : Turning) (latest : ℕ) (offers : List Offer) where
-  pub none_last : turning.from ≤ latest → IsLastOf turning latest offers 0 0 turning.from
-  none_last order = record {
+  abbrev ends : Offer → ℕ
+  ends offer = end_of turning.rotation offer.sweep turning.from
+
+  pub none_last : (seen : ℕ → Type 0) → ((i : ℕ) → seen i → length offers ≤ i) → turning.from ≤ latest
+      → IsLastOf turning latest offers seen 0 turning.from
+  none_last seen none order = record {
     from = omega arith;
     upto = order;
-    each = λ i offer less. absurd (omega (arith, less));
+    each = λ i offer was at. absurd (omega (arith, none i was, slice_get_within offers i offer at));
     reached = inl (refl, refl);
   }
 
-  pub all_last : (n worth last : ℕ) → length offers ≤ n → IsLastOf turning latest offers n worth last
-      → IsLastEnd turning latest offers worth last
-  all_last n worth last all is = record {
+  pub all_last : (seen : ℕ → Type 0) (worth last : ℕ) → ((i : ℕ) → i < length offers → seen i)
+      → IsLastOf turning latest offers seen worth last → IsLastEnd turning latest offers worth last
+  all_last seen worth last all is = record {
     from = is.from;
     upto = is.upto;
-    each = λ i offer at. is.each i offer (omega (arith, all, slice_get_within offers i offer at)) at;
+    each = λ i offer at. is.each i offer (all i (slice_get_within offers i offer at)) at;
     reached = is.reached;
   }
 
-  abbrev ends : Offer → ℕ
-  ends offer = end_of turning.rotation offer.sweep turning.from
+  -- what ends too late needn't be looked at
+  pub others_late : (seen more : ℕ → Type 0) (worth last : ℕ)
+      → ((i : ℕ) (offer : Offer) → more i → slice_get offers i ≡ Some offer → seen i ⊎ (latest < ends offer))
+      → IsLastOf turning latest offers seen worth last → IsLastOf turning latest offers more worth last
+  others_late seen more worth last late is = record {
+    from = is.from;
+    upto = is.upto;
+    each = λ i offer was at ended. elim (late i offer was at) [
+      | inl before ↦ is.each i offer before at ended
+      | inr later ↦ absurd (omega (arith, later, ended))
+    ];
+    reached = is.reached;
+  }
 
   one_offer : (n : ℕ) (a b : Offer) → slice_get offers n ≡ Some a → slice_get offers n ≡ Some b → a ≡ b
   one_offer n a b at_a at_b = some_one a b (sym at_a ∙ at_b)
 
-  module _ (n worth last new_worth new_last : ℕ) (o : Offer) (at : slice_get offers n ≡ Some o)
+  -- one more is looked at
+  module _ (seen more : ℕ → Type 0) (n worth last new_worth new_last : ℕ) (o : Offer) (at : slice_get offers n ≡ Some o)
       (sum : new_worth ≡ worth + added (passes_by turning latest) o)
       (is_new : new_last ≡ (if passes_by turning latest o.sweep then max last (ends o) else last))
-      (is : IsLastOf turning latest offers n worth last) where
+      (grows : (i : ℕ) → more i → seen i ⊎ (i ≡ n))
+      (is : IsLastOf turning latest offers seen worth last) where
     -- the n-th is the new one
-    own_end : (i : ℕ) (offer : Offer) → i < n + 1 → n ≤ i → slice_get offers i ≡ Some offer → ends o ≡ ends offer
-    own_end i offer less here there =
-        let same : i ≡ n = omega (arith, less, here) in
-        ap ends (one_offer n o offer at (subst (λ k. slice_get offers k ≡ Some offer) same there))
+    own_end : (i : ℕ) (offer : Offer) → i ≡ n → slice_get offers i ≡ Some offer → ends o ≡ ends offer
+    own_end i offer same there = ap ends (one_offer n o offer at (subst (λ k. slice_get offers k ≡ Some offer) same there))
 
-    in_time : passes_by turning latest o.sweep ≡ true → IsLastOf turning latest offers (n + 1) new_worth new_last
+    in_time : passes_by turning latest o.sweep ≡ true → IsLastOf turning latest offers more new_worth new_last
     in_time yes' =
         let new : new_last ≡ max last (ends o) = rw yes' at is_new in
         let by : ends o ≤ latest = grind (arith, nat_tests) in
         record {
           from = omega (arith, new, is.from);
           upto = omega (arith, new, is.upto, by);
-          each = λ i offer less there ended. elim (cases_lt i n) [
+          each = λ i offer was there ended. elim (grows i was) [
             | inl before ↦ omega (arith, is.each i offer before there ended, new)
-            | inr here ↦ omega (arith, own_end i offer less here there, new)
+            | inr here ↦ omega (arith, own_end i offer here there, new)
           ];
           reached = elim (cases_lt last (ends o)) [
             | inl later ↦ inr (record { index = n; offer = o; stands = at; ends = omega (arith, new, later) })
@@ -77,7 +85,7 @@ module _ (turning : Turning) (latest : ℕ) (offers : List Offer) where
           ];
         }
 
-    too_late : latest < ends o → IsLastOf turning latest offers (n + 1) new_worth new_last
+    too_late : latest < ends o → IsLastOf turning latest offers more new_worth new_last
     too_late late =
         let no' : passes_by turning latest o.sweep ≡ false = grind (arith, nat_tests) in
         let new : new_last ≡ last = rw no' at is_new in
@@ -85,9 +93,9 @@ module _ (turning : Turning) (latest : ℕ) (offers : List Offer) where
         record {
           from = omega (arith, new, is.from);
           upto = omega (arith, new, is.upto);
-          each = λ i offer less there ended. elim (cases_lt i n) [
+          each = λ i offer was there ended. elim (grows i was) [
             | inl before ↦ omega (arith, is.each i offer before there ended, new)
-            | inr here ↦ absurd (omega (arith, own_end i offer less here there, late, ended))
+            | inr here ↦ absurd (omega (arith, own_end i offer here there, late, ended))
           ];
           reached = elim is.reached [
             | inl nothing ↦ inl (omega (arith, sum, none, nothing.0), omega (arith, new, nothing.1))
@@ -95,7 +103,7 @@ module _ (turning : Turning) (latest : ℕ) (offers : List Offer) where
           ];
         }
 
-    pub more_last : IsLastOf turning latest offers (n + 1) new_worth new_last
+    pub more_last : IsLastOf turning latest offers more new_worth new_last
     more_last = elim (cases_lt latest (ends o)) [
       | inl late ↦ too_late late
       | inr by ↦ in_time (grind (arith, nat_tests))

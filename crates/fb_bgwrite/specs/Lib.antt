@@ -4,6 +4,7 @@ pub mod Spilling
 pub mod Steps
 pub mod AmendedWay
 pub mod Spilled
+pub mod ByAngle
 pub mod Choosing
 pub mod Text
 pub mod Standing

@@ -10,6 +10,7 @@
 //! of the disk.
 #![tactic(auto)]
 
+mod by_angle;
 mod choice;
 mod items;
 mod laws;
@@ -18,6 +19,7 @@ mod search;
 mod shortest;
 mod spilling;
 mod spills;
+mod spots;
 mod text;
 
 pub use fb_puts::{Put, Puts, PutsError, PutsFault, PutsReason, read_puts};

@@ -1,5 +1,5 @@
 // The registered blocks of puts, of which those are pending that are still wanted.
-ghost use Rattle.std.specs.Prelude.{◌≡◌, ◌+◌, ◌<◌, ◌≤◌, ℕ, [], ◌∷◌, ◌++◌, length, map, Some, slice_get, true, IfOk, OnOk, ◌*◌, ◌^◌};
+ghost use Rattle.std.specs.Prelude.{◌≡◌, ◌+◌, ◌<◌, ◌≤◌, ℕ, [], ◌∷◌, ◌++◌, length, map, Some, slice_get, true, IfOk, IfSome, OnOk, ◌*◌, ◌^◌};
 ghost use Rattle.fb_wanted.specs.declared.block.Entry.{Entry};
 ghost use Rattle.fb_wanted.specs.declared.block.Change.{Change};
 ghost use Rattle.fb_wanted.specs.declared.block.State.TheVariants.{Wanted as StillWanted};
@@ -12,28 +12,32 @@ ghost use Rattle.fb_wanted.specs.Numbering.{blocks_of, registered_count};
 ghost use Rattle.fb_service.specs.declared.disk.Disk.{Disk};
 ghost use Rattle.fb_plan.specs.Ways.{AreOnDisk};
 ghost use Rattle.fb_model.specs.Segments.{numbered};
+ghost use Rattle.fb_bgwrite.specs.ByAngle.{AreSpots};
 ghost use Rattle.fb_bgwrite.specs.Shortest.{AreAtLeast};
 ghost use Rattle.fb_bgwrite.specs.Standing.{wanted_entry};
 
+use crate::by_angle::ByAngle;
 use crate::shortest::{NONE, Shortest};
+use crate::spots::Spot;
 use fb_plan::{blocks_on, caught};
 use fb_rows::{Catch, Dwell};
 use fb_sectormap::Cut;
 use fb_service::Disk;
 use fb_units::{NoMemory, Track};
-use fb_wanted::{Block, TrackBlocks, Wanted};
+use fb_wanted::{Block, TrackBlocks};
 use std::alloc::Global;
 use std::marker::Model;
 
 /// The registered blocks of puts, each with its state, and how short the pending ones of each
 /// cylinder are. Each of their sectors weighs 1.
 ///
-/// To register or to deliver a block takes constant time. A refresh looks at each track of a cylinder,
+/// To register or to deliver a block takes constant time; on a track with many pending blocks those
+/// that begin at a greater angle are moved. A refresh looks at each track of a cylinder,
 /// and at its pending blocks up to one that is as short as the bound; at all of them where there is
 /// none.
 #[derive(Drop)]
 pub struct Pending {
-    blocks: Wanted,
+    blocks: ByAngle,
     shortest: Shortest,
 }
 
@@ -86,7 +90,7 @@ impl Pending {
         ensures { result ≡ [] }
     {
         Pending {
-            blocks: Wanted::new(alloc),
+            blocks: ByAngle::new(alloc),
             shortest: Shortest::new(alloc),
         }
     }
@@ -109,7 +113,7 @@ impl Pending {
             weight: 1,
             sweep: cut.sweep,
         };
-        self.blocks.register(block, false)
+        self.blocks.register(block)
     }
 
     /// Marks a pending block as written, by its put and its index there.
@@ -135,7 +139,7 @@ impl Pending {
     fn is_reached(&self, disk: &Disk, cylinder: u32) -> bool {
         let bound = self.shortest.at(cylinder) as u64;
         for head in 0..disk.map.geometry().heads() {
-            if !are_longer(&self.blocks.on(Track { cylinder, head }), bound) {
+            if !are_longer(&self.blocks.all().on(Track { cylinder, head }), bound) {
                 return true;
             }
         }
@@ -150,7 +154,7 @@ impl Pending {
         disk.map.geometry().sound();
         let mut least = NONE;
         for head in 0..disk.map.geometry().heads() {
-            least = least_on(&self.blocks.on(Track { cylinder, head }), least);
+            least = least_on(&self.blocks.all().on(Track { cylinder, head }), least);
         }
         self.shortest.renew(cylinder, least);
     }
@@ -164,7 +168,7 @@ impl Pending {
         ensures all { IfOk result (λ found. found.items ≡ caught_of disk.now dwell (wanted_of self.now)) }
         ensures ordered { IfOk result (λ found. AreOrdered found.items) }
     {
-        caught(alloc, disk, &self.blocks, dwell)
+        caught(alloc, disk, self.blocks.all(), dwell)
     }
 
     /// The registered blocks of a track.
@@ -172,7 +176,14 @@ impl Pending {
         ensures its { result ≡ on_track track self.now }
         ensures on_disk { (disk : Disk) → AreOnDisk disk self.now → AreOnDisk disk result }
     {
-        blocks_on(&self.blocks, track)
+        blocks_on(self.blocks.all(), track)
+    }
+
+    /// The pending blocks of a track by angle, if they are kept.
+    pub fn spots_on(&self, track: Track) -> Option<&[Spot]>
+        ensures { IfSome result (λ spots. AreSpots spots.now (on_track track self.now)) }
+    {
+        self.blocks.spots_on(track)
     }
 
     /// An upper bound on the sectors of the pending blocks of each track of these cylinders.
@@ -180,7 +191,7 @@ impl Pending {
         requires some { from < end }
         ensures each { (track : Track) → from ≤ track.cylinder → track.cylinder < end → wanted_weight track self.now ≤ result }
     {
-        self.blocks.greatest_weight_in(from, end)
+        self.blocks.all().greatest_weight_in(from, end)
     }
 
     /// A lower bound on the sectors of each pending block of this cylinder; 2,049 where it is known that

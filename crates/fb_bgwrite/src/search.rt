@@ -9,9 +9,10 @@ ghost use Rattle.fb_wanted.specs.States.{on_track, wanted_of};
 ghost use Rattle.fb_wanted.specs.Tracks.{wanted_weight};
 ghost use Rattle.fb_units.specs.declared.types.Track.{Track};
 ghost use Rattle.fb_plan.specs.Ways.{AreOnDisk};
-ghost use Rattle.fb_plan.specs.Turns.{added, end_of, passes_by, AreInTurn, IsInTurn, Stands};
+ghost use Rattle.fb_plan.specs.Turns.{added, end_of, passes_by, AreInTurn, IsInTurn, IsTurning, Stands};
 ghost use Rattle.fb_detour.specs.Bounds.{slots_within};
 ghost use Rattle.fb_bgwrite.specs.declared.choice.Spill.{Spill};
+ghost use Rattle.fb_bgwrite.specs.ByAngle.{as_offers, AreByAngle, HasWritten, IsWrittenFrom, PassInTurn};
 ghost use Rattle.fb_bgwrite.specs.Choosing.{AreLeast, ArePending, AreTried, IsBestIf, IsEnough, IsFound, IsGap, IsKept};
 ghost use Rattle.fb_bgwrite.specs.Choosing.{IsLastEnd, IsMostOn, IsOnly, IsPart, IsSearch, IsShare, IsTried, IsValuedIf};
 ghost use Rattle.fb_bgwrite.specs.Depth.{depth};
@@ -20,11 +21,12 @@ ghost use Rattle.fb_bgwrite.specs.Spilling.{value, IsSpill};
 
 use crate::choice::{Spill, Valued, better};
 use crate::pending::{Pending, are_longer};
+use crate::spots::{Spot, count_before};
 use fb_detour::most_slots;
 use fb_plan::Turning;
 use fb_rows::Gap;
 use fb_service::Disk;
-use fb_units::{Ns, Track};
+use fb_units::{Ns, Sweep, Track};
 use fb_wanted::{Offer, TrackBlocks};
 
 // The most sectors of a block.
@@ -541,7 +543,7 @@ fn try_track(search: &Search, track: Track, most: u64, best: Option<Valued>) -> 
     if is_enough(best, most.min(blocks.wanted_weight()), track.cylinder) {
         return best;
     }
-    if are_longer(&blocks, most) {
+    if search.pending.spots_on(track).is_none() && are_longer(&blocks, most) {
         return best;
     }
     let found = spill_on(search, track, &blocks);
@@ -570,7 +572,7 @@ fn spill_on(search: &Search, track: Track, blocks: &TrackBlocks) -> Option<Value
         return None;
     }
     let turning = Turning::new(disk, begin);
-    let written = written_by(blocks.offers(), &turning, gap.deadline - on);
+    let written = written_on(search, track, blocks, &turning, gap.deadline - on);
     if written.sectors == 0 {
         return None;
     }
@@ -581,6 +583,76 @@ fn spill_on(search: &Search, track: Track, blocks: &TrackBlocks) -> Option<Value
         },
         value: written.sectors,
     })
+}
+
+// What is written of a track's blocks in a stay there until the instant `latest`, in ns.
+fn written_on(
+    search: &Search,
+    track: Track,
+    blocks: &TrackBlocks,
+    turning: &Turning,
+    latest: Ns,
+) -> Written
+    requires its { blocks.now ≡ on_track track search.now.pending.now }
+    requires turning { IsTurning search.now.disk.now turning.now }
+    requires on_disk { AreOnDisk search.now.disk.now blocks.now }
+    requires order { turning.now.from ≤ latest }
+    ensures { HasWritten turning.now latest blocks.now result.sectors result.last }
+{
+    let offers = blocks.offers();
+    match search.pending.spots_on(track) {
+        Some(spots) => written_within(spots, turning, latest),
+        None => written_by(offers, turning, latest),
+    }
+}
+
+// What is written of these spots in a stay until the instant `latest`, in ns: first those are looked at that
+// pass before the platter comes to angle 0.
+fn written_within(spots: &[Spot], turning: &Turning, latest: Ns) -> Written
+    requires stands { Stands turning.now }
+    requires by_angle { AreByAngle spots.now }
+    requires sweeps { AreInTurn turning.now.rotation (as_offers spots.now) }
+    requires order { turning.now.from ≤ latest }
+    requires few { length spots.now ≤ 16000000 }
+    ensures { IsWrittenFrom turning.now latest spots.now 0 result.sectors result.last }
+{
+    let none = Written {
+        sectors: 0,
+        last: turning.from,
+    };
+    let next = count_before(spots, turning.at);
+    let written = written_from(spots, next, spots.len(), turning, latest, none);
+    written_from(spots, 0, next, turning, latest, written)
+}
+
+// The same with the spots from one on up to an end, which pass one after the other; it stops at the first that
+// begins too late.
+fn written_from(
+    spots: &[Spot],
+    from: usize,
+    end: usize,
+    turning: &Turning,
+    latest: Ns,
+    so_far: Written,
+) -> Written
+    requires order { from ≤ end }
+    requires within { end ≤ length spots.now }
+    requires stands { Stands turning.now }
+    requires sweeps { AreInTurn turning.now.rotation (as_offers spots.now) }
+    requires few { length spots.now ≤ 16000000 }
+    requires turns { PassInTurn turning.now spots.now from end }
+    requires behind { IsWrittenFrom turning.now latest spots.now end so_far.sectors so_far.last }
+    ensures { IsWrittenFrom turning.now latest spots.now from result.sectors result.last }
+{
+    let mut written = so_far;
+    for i in from..end {
+        let spot = spots[i];
+        if latest < turning.begin(spot.sweep) {
+            return written;
+        }
+        written = with_sweep(spot.sweep, spot.worth, turning, latest, written);
+    }
+    written
 }
 
 // What is written of a track's offers in a stay there until the instant `latest`, in ns.
@@ -597,27 +669,27 @@ fn written_by(offers: &[Offer], turning: &Turning, latest: Ns) -> Written
         last: turning.from,
     };
     for offer in offers {
-        written = with_offer(*offer, turning, latest, written);
+        written = with_sweep(offer.sweep, offer.worth, turning, latest, written);
     }
     written
 }
 
 // The same with one more offer.
-fn with_offer(offer: Offer, turning: &Turning, latest: Ns, so_far: Written) -> Written
+fn with_sweep(sweep: Sweep, worth: u32, turning: &Turning, latest: Ns, so_far: Written) -> Written
     requires stands { Stands turning.now }
-    requires sweep { IsInTurn turning.now.rotation offer.sweep }
+    requires sweep { IsInTurn turning.now.rotation sweep }
     requires room { so_far.sectors < 2 ^ 62 }
-    ensures sectors { result.sectors ≡ so_far.sectors + added (passes_by turning.now latest) offer }
-    ensures last { result.last ≡ (if passes_by turning.now latest offer.sweep
-        then max so_far.last (end_of turning.now.rotation offer.sweep turning.now.from) else so_far.last) }
+    ensures sectors { result.sectors ≡ so_far.sectors + (if passes_by turning.now latest sweep then worth else 0) }
+    ensures last { result.last ≡ (if passes_by turning.now latest sweep
+        then max so_far.last (end_of turning.now.rotation sweep turning.now.from) else so_far.last) }
     ensures small { result.sectors < so_far.sectors + 2 ^ 32 }
 {
-    let end = turning.end(offer.sweep);
+    let end = turning.end(sweep);
     if latest < end {
         return so_far;
     }
     Written {
-        sectors: so_far.sectors + offer.worth as u64,
+        sectors: so_far.sectors + worth as u64,
         last: so_far.last.max(end),
     }
 }

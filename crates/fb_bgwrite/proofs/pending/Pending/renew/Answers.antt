@@ -13,7 +13,8 @@ loop-head-preserved c = λ head i e less at wanted. elim (cases_lt head c.loop-h
       let same : head ≡ c.loop-head.head = omega (arith, here, less) in
       let own = subst (λ h. slice_get (on_track (let t : Track = record { cylinder = c.args.cylinder; head = h } in t) c.self.inside.blocks)
       i ≡ Some e) same at in
-      c.least_on-least.ensures.each i e (ap (λ xs. slice_get xs i) c.on.ensures ∙ own) wanted
+      c.least_on-least.ensures.each i e (ap (λ xs. slice_get xs i) (c.on.ensures
+      ∙ ap (on_track (let t : Track = record { cylinder = c.args.cylinder; head = c.loop-head.head } in t)) c.all.ensures) ∙ own) wanted
 ]
 
 pub invariant_of-self : goal.invariant_of-self
