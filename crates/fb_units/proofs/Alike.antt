@@ -1,7 +1,6 @@
 -- Functions and tests that agree on a list.
-use Rattle.std.proofs.Common.{◌≡◌, List, [], ◌∷◌, Bool, true, map, filter, inl, inr, refl, ap₂}
+use Rattle.std.proofs.Common.{◌≡◌, List, [], ◌∷◌, Bool, map, filter, refl}
 use Rattle.std.specs.List.{AllByRecursion, flat_map, list_all, list_any}
-use Rattle.std.proofs.lemmas.Bool.{cases_Bool}
 use Rattle.fb_units.proofs.Each.{all_any}
 use Rattle.fb_units.proofs.Lists.{all_weaker}
 
@@ -16,15 +15,6 @@ same_map f g same xs = map_same f g xs (all_any (λ x. f x ≡ g x) same xs)
 pub same_map_where : {X Y : Type 0} (P : X → Type 0) (f g : X → Y) → ((x : X) → P x → f x ≡ g x) → (xs : List X) → AllByRecursion P xs
     → map f xs ≡ map g xs
 same_map_where P f g same xs all = map_same f g xs (all_weaker P (λ x. f x ≡ g x) same xs all)
-
--- functions that agree on what a test keeps
-pub same_kept : {X Y : Type 0} (test : X → Bool) (f g : X → Y) → ((x : X) → test x ≡ true → f x ≡ g x) → (xs : List X)
-    → map f (filter test xs) ≡ map g (filter test xs)
-same_kept test f g same [] = refl
-same_kept test f g same (x ∷ xs) = elim (cases_Bool (test x)) [
-  | inl kept ↦ rw kept (ap₂ (λ y ys. y ∷ ys) (same x kept) (same_kept test f g same xs))
-  | inr dropped ↦ rw dropped (same_kept test f g same xs)
-]
 
 pub all_same : {X : Type 0} (p q : X → Bool) (xs : List X) → AllByRecursion (λ x. p x ≡ q x) xs → list_all p xs ≡ list_all q xs
 all_same p q [] h = refl

@@ -51,10 +51,6 @@ pub all_flat : {X Y : Type 0} (P : Y → Type 0) (f : X → List Y) (xs : List X
 all_flat P f [] p = tt
 all_flat P f (x ∷ xs) p = (all_left P (f x) (flat_map f xs) p, all_flat P f xs (all_right P (f x) (flat_map f xs) p))
 
-pub all_flat_map : {X Y : Type 0} (P : Y → Type 0) (f : X → List Y) → ((x : X) → AllByRecursion P (f x)) → (xs : List X)
-    → AllByRecursion P (flat_map f xs)
-all_flat_map P f each xs = flat_all P f xs (all_any (λ x. AllByRecursion P (f x)) each xs)
-
 -- what holds of all holds of the best one
 pub all_best : {X : Type 0} (P : X → Type 0) (p : X → X → Bool) (x : X) (xs : List X) → P x → AllByRecursion P xs → P (best_of p x xs)
 all_best P p x [] one all = one
