@@ -110,8 +110,8 @@ module _ (disk : Shape) (sound : IsSound disk) where
     sound.few_cylinders,
   )
 
-  pub count-few : length (places disk) ≤ 10 ^ 12
-  count-few = omega (arith, count-is, before-few (cylinders_of disk.zones) (omega arith))
+  pub count_few : length (places disk) ≤ 10 ^ 12
+  count_few = omega (arith, count-is, before-few (cylinders_of disk.zones) (omega arith))
 
   -- ---- places
 

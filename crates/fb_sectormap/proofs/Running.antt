@@ -9,7 +9,7 @@ use Rattle.fb_geometry.specs.Places.{places, data_list_at}
 use Rattle.fb_geometry.specs.Sound.{IsSound}
 use Rattle.fb_sectormap.specs.LookUp.{IsAt, place_at, track_at}
 use Rattle.fb_sectormap.specs.Cylinders.{IsSectorOf, sectors_before}
-use Rattle.fb_sectormap.proofs.ByCylinder.{placed, place_is, own-at, size-few, count-few}
+use Rattle.fb_sectormap.proofs.ByCylinder.{placed, place_is, own-at, size-few, count_few}
 
 -- what is known of the place of a sector
 pub record Placed (disk : Shape) (cylinder lbn : ℕ) (place : Place) : Type 0 where
@@ -39,7 +39,7 @@ module _ (disk : Shape) (sound : IsSound disk) (cylinder j lbn : ℕ) (is : IsSe
       (slice_get_within (places disk) lbn place.0 its.at, ap (λ (p : Place). p.track.cylinder) (sym its.value) ∙ its.cylinder_is)
 
   pub end_fits : (sectors : ℕ) → sectors ≡ length (data_list_at disk cylinder) → lbn - j + sectors ≤ 2 * 10 ^ 12
-  end_fits sectors e = omega (arith, e, size-few disk sound cylinder is.on_disk, count-few disk sound, cylinder_of_sector.0)
+  end_fits sectors e = omega (arith, e, size-few disk sound cylinder is.on_disk, count_few disk sound, cylinder_of_sector.0)
 
 module _ (disk : Shape) (cylinder first end : ℕ) (on : cylinder < cylinders_of disk.zones) (starts : first ≡ sectors_before disk cylinder)
     (ends : end ≡ first + length (data_list_at disk cylinder)) (lbn : ℕ) (from : first ≤ lbn) (before : lbn < end) where

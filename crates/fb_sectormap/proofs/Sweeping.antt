@@ -15,8 +15,8 @@ module _ (r from to : ℕ) (low : from < r) where
   around : r ≤ from + 1 → (from + 1) % r ≡ 0
   around late = rest_is r 1 0 (from + 1) (omega arith) (omega arith)
 
-  pub turned-ahead : from < to → to ≤ r → to - from ≡ 1 + wait r (to % r) (from + 1)
-  turned-ahead less within = elim (cases_lt to r) [
+  pub turned_ahead : from < to → to ≤ r → to - from ≡ 1 + wait r (to % r) (from + 1)
+  turned_ahead less within = elim (cases_lt to r) [
     | inl here ↦
         let same : to % r ≡ to = rest_is r 0 to to here (omega arith) in
         let turned = turned-by to 1 (to - from - 1) same (omega arith) (omega (arith, inside (omega arith))) in
@@ -33,8 +33,8 @@ module _ (r from to : ℕ) (low : from < r) where
         ]
   ]
 
-  pub turned-over : to ≤ from → to + r - from ≡ 1 + wait r (to % r) (from + 1)
-  turned-over before =
+  pub turned_over : to ≤ from → to + r - from ≡ 1 + wait r (to % r) (from + 1)
+  turned_over before =
       let same : to % r ≡ to = rest_is r 0 to to (omega arith) (omega arith) in
       elim (cases_lt (from + 1) r) [
         | inl early ↦

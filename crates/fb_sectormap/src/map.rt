@@ -35,6 +35,7 @@ impl Model for SectorMap {
 
 impl SectorMap {
     /// The map of a disk. Its only error is `NoMemory`.
+    #[tactic(auto, using(crate::proofs::Making::all_made))]
     pub fn new(alloc: Global, geometry: Geometry) -> Result<SectorMap, NoMemory>
         ensures { IfOk result (λ map. map ≡ geometry) }
     {
@@ -66,6 +67,7 @@ impl SectorMap {
     }
 
     /// The number of sectors of the disk.
+    #[tactic(auto, using(crate::proofs::ByCylinder::count_few))]
     pub fn count(&self) -> u64
         ensures value { result ≡ length (places self.now) }
         ensures bound { result ≤ 10 ^ 12 }

@@ -9,6 +9,7 @@ use fb_units::{Ns, Place, Sweep};
 
 // How long the platter turns from an angle until it next stands at another, a whole rotation where
 // they are the same. Times and angles are in ns.
+#[tactic(auto, using(crate::proofs::Sweeping::turned_ahead, crate::proofs::Sweeping::turned_over))]
 fn turned(rotation: Ns, from: Ns, to: Ns) -> Ns
     requires from { from < rotation }
     requires to { to ≤ rotation }

@@ -1,7 +1,7 @@
 use Rattle.std.proofs.Common.{refl, arith, ◌∙◌}
 use Rattle.fb_sectormap.specs.Cylinders.{sectors_before}
 use Rattle.fb_sectormap.proofs.ByCylinder.{upto_last}
-use Rattle.fb_sectormap.proofs.Making.{one_more, next_lbn, all_made}
+use Rattle.fb_sectormap.proofs.Making.{one_more, next_lbn}
 use Rattle.fb_sectormap.proofs.map.SectorMap.new.Goals as goal
 
 pub loop-i-init : goal.loop-i-init
@@ -36,7 +36,3 @@ loop-i-preserved c = record {
   sectors = c.first_of-sectors.ensures ∙ (next_lbn c.args.geometry c.sound.ensures c.loop-i.i c.zone-zone.result c.loop-i.sectors
       c.cylinder_sectors.result c.zone-zone.ensures c.loop-i.invariant.sectors c.cylinder_sectors.ensures.value).0;
 }
-
-pub invariant_of-result : goal.invariant_of-result
-invariant_of-result c = all_made c.args.geometry c.sound.ensures c.loop-i.i c.loop-i.starts.items c.loop-i.sectors (omega arith)
-    c.loop-i.invariant.starts c.loop-i.invariant.sectors
