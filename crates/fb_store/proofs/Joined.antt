@@ -117,9 +117,9 @@ joined-first runs n last run size at joined =
     joins-first last run (sym (last_joins-at runs n last run size ∙ is) ∙ joined)
 
 -- the fewest runs of some sectors are the fewest runs of the sectors that they have
-pub fewest-again : (sectors : List (ℕ × Content)) (runs : List ContentRun) → runs ≡ runs_of sectors
+pub fewest_again : (sectors : List (ℕ × Content)) (runs : List ContentRun) → runs ≡ runs_of sectors
     → (sectors_of runs ≡ sectors) × (runs ≡ runs_of (sectors_of runs))
-fewest-again sectors runs e =
+fewest_again sectors runs e =
     let own = ap sectors_of e ∙ sectors_of-runs_of sectors in
     (own, e ∙ ap runs_of (sym own))
 

@@ -68,10 +68,10 @@ goes_on ranges first stop lbn next from to = steady (begins_at ranges) first lbn
     (λ begin a b. none_there (begins_at ranges begin) (λ some. let past : stop ≤ begin = next begin some a in absurd (omega arith)))
 
 -- without any range, sectors hold what was there before any write
-pub content_in-empty : (ranges : List (ℕ × Option Content)) (keys latent : List ℕ) (lbn : ℕ) → ranges ≡ []
+pub content_in_empty : (ranges : List (ℕ × Option Content)) (keys latent : List ℕ) (lbn : ℕ) → ranges ≡ []
     → list_any (is_at (nat_cmp lbn)) keys ≡ list_any (is_at (nat_cmp lbn)) latent
     → content_in (record { latent = keys; ranges = ranges }) lbn ≡ unwritten latent lbn
-content_in-empty ranges keys latent lbn none same =
+content_in_empty ranges keys latent lbn none same =
     ap (λ w. unwrap_or w (unwritten keys lbn))
     (ap (λ rs. held_of (begins_at rs) lbn) none ∙ none_held (begins_at []) lbn (λ begin le. refl))
     ∙ ap (λ any. cond any Unreadable (Filled 0)) (sym (any_key keys lbn) ∙ (same ∙ any_key latent lbn))

@@ -15,7 +15,7 @@ use Rattle.fb_store.specs.Ranges.{held_at, begins_at}
 use Rattle.fb_store.specs.Sparse.{after_taking, after_take, after_dropping, held_sector, held_in, EndsBy}
 use Rattle.fb_store.proofs.Held.{none_held}
 use Rattle.fb_store.proofs.Originals.{inside, before, after, goes_on}
-use Rattle.fb_store.proofs.Joined.{fewest-again}
+use Rattle.fb_store.proofs.Joined.{fewest_again}
 use Rattle.fb_store.proofs.Runs.{sectors_of-runs_of}
 
 pub after_taking-append : (sectors more : List (ℕ × Content)) (lbn : ℕ) (held : Option Content)
@@ -113,8 +113,8 @@ dropped first n lbn was is within less more = elim (cases_lt lbn first) [
 ]
 
 -- without any range, no sector holds anything
-pub held_at-empty : (ranges : List (ℕ × Option Content)) (lbn : ℕ) → ranges ≡ [] → held_at ranges lbn ≡ None
-held_at-empty ranges lbn none = ap (λ rs. held_at rs lbn) none ∙ none_held (begins_at []) lbn (λ begin le. refl)
+pub held_at_empty : (ranges : List (ℕ × Option Content)) (lbn : ℕ) → ranges ≡ [] → held_at ranges lbn ≡ None
+held_at_empty ranges lbn none = ap (λ rs. held_at rs lbn) none ∙ none_held (begins_at []) lbn (λ begin le. refl)
 
 -- the contents of two neighbouring ranges
 pub held_in-split : (content_of : ℕ → Option Content) (first m n : ℕ) → held_in content_of (range_with_len first (m + n))
@@ -173,7 +173,7 @@ pub added_more : (content_of : ℕ → Option Content) (start : List (ℕ × Con
 added_more content_of start runs more first lbn next from to so_far added =
     let before = held_in content_of (range_with_len first (lbn - first)) in
     let next_sectors = held_in content_of (range_with_len lbn (next - lbn)) in
-    let own = (fewest-again (start ++ before) runs so_far).0 in
+    let own = (fewest_again (start ++ before) runs so_far).0 in
     let at : first + (lbn - first) ≡ lbn = omega arith in
     let size : next - first ≡ lbn - first + (next - lbn) = omega arith in
     let whole = ap (λ n. held_in content_of (range_with_len first n)) size ∙ (held_in-split content_of first (lbn - first) (next - lbn)

@@ -57,6 +57,7 @@ pub fn held_up_to(
 
 /// Makes a range begin at a sector, with the content that the sector has. Out of memory, no content
 /// has changed.
+#[tactic(auto, using(crate::proofs::Held::cut_same))]
 pub fn cut(ranges: &mut BTreeMap<u64, Option<Content>>, at: u64) -> Result<(), NoMemory>
     ensures begins { OnOk result (get nat_cmp ranges.new at ≡ Some (held_of (get nat_cmp ranges.old) at)) }
     ensures keeps { (begin : ℕ) → ContainsKey nat_cmp ranges.old begin → ContainsKey nat_cmp ranges.new begin }
@@ -103,6 +104,7 @@ pub fn write(
 
 /// Gives all sectors from the first on, before the end, a content. Ranges begin at both already, so
 /// this needs no memory.
+#[tactic(auto, using(crate::proofs::Held::assigned_before))]
 pub fn assign(ranges: &mut BTreeMap<u64, Option<Content>>, first: u64, end: u64, content: Content)
     requires begins { ContainsKey nat_cmp ranges.old first }
     requires ends { ContainsKey nat_cmp ranges.old end }

@@ -40,6 +40,7 @@ impl Model for SparseContents {
 
 impl SparseContents {
     /// No sector holds anything.
+    #[tactic(auto, using(crate::proofs::Taken::held_at_empty))]
     pub fn new(alloc: Global) -> Self
         ensures empty { result ≡ [] }
         ensures none { (lbn : ℕ) → held_at result lbn ≡ None }
@@ -95,6 +96,7 @@ impl SparseContents {
 
     /// Adds what the sectors of a range hold behind runs that are the fewest for their sectors, and
     /// they stay so. Out of memory, it returns `NoMemory`, and some runs may have been added.
+    #[tactic(auto, using(crate::proofs::Joined::fewest_again))]
     pub fn add_runs(&self, runs: &mut Contents, first: u64, count: u64) -> Result<(), NoMemory>
         requires range { first + count ≤ 10 ^ 12 }
         requires fewest { (sectors : List (ℕ × Content)) × (runs.old ≡ runs_of sectors) }
@@ -175,6 +177,7 @@ fn last_said(alloc: Global, contents: &Contents) -> Result<Contents, NoMemory>
 
 // Each sector of the runs holds from now on what the last run that has it says, and all other
 // sectors stay as they are. Out of memory, no content has changed.
+#[tactic(auto, using(fb_units::proofs::Lists::on_err))]
 fn take_runs(
     ranges: &mut BTreeMap<u64, Option<Content>>,
     contents: &Contents,
@@ -195,6 +198,7 @@ fn take_runs(
 
 // Each sector of the run holds its content from now on, and all other sectors stay as they are. Out
 // of memory, no content has changed.
+#[tactic(auto, using(fb_units::proofs::Lists::on_err))]
 fn write_run(ranges: &mut BTreeMap<u64, Option<Content>>, run: &ContentRun) -> Result<(), NoMemory>
     requires { IsInRange run.now }
     ensures past { EndsBy (held_of (get nat_cmp ranges.old)) (10 ^ 12) → EndsBy (held_of (get nat_cmp ranges.new)) (10 ^ 12) }
@@ -211,6 +215,7 @@ fn write_run(ranges: &mut BTreeMap<u64, Option<Content>>, run: &ContentRun) -> R
 }
 
 // Makes ranges begin at each run and behind it. What sectors hold stays as it is.
+#[tactic(auto, using(std::proofs::lemmas::Option::slice_get_within))]
 fn cut_runs(
     ranges: &mut BTreeMap<u64, Option<Content>>,
     contents: &Contents,

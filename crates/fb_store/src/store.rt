@@ -33,6 +33,7 @@ impl Model for Store {
 impl Store {
     /// The store of a disk to which nothing was written, and on which these sectors cannot be read.
     /// Its only error is `NoMemory`.
+    #[tactic(auto, using(crate::proofs::Originals::content_in_empty))]
     pub fn new(alloc: Global, latent: &[u64]) -> Result<Store, NoMemory>
         ensures { IfOk result (λ store. (lbn : ℕ) → content_in store lbn ≡ unwritten latent.now lbn) }
     {

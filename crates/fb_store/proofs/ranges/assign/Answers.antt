@@ -2,7 +2,7 @@ use Rattle.std.proofs.Common.{Some, arith, inl, inr}
 use Rattle.std.specs.Ordering.{nat_cmp}
 use Rattle.std.specs.BTreeMap.{get}
 use Rattle.std.proofs.lemmas.Bool.{cases_lt}
-use Rattle.fb_store.proofs.Held.{assigned_inside, assigned_before, assigned_after}
+use Rattle.fb_store.proofs.Held.{assigned_inside, assigned_after}
 use Rattle.fb_store.proofs.ranges.assign.Goals as goal
 
 pub returns-clause-inside : goal.returns-clause-inside
@@ -12,10 +12,6 @@ returns-clause-inside c lbn from to =
     assigned_inside (get nat_cmp c.loop-begin.ranges) c.args.first lbn (Some c.args.content)
     (at.changed c.args.first (omega arith) (omega arith) (at.keeps c.args.first c.requires.begins)) from
     (λ begin a b some. at.changed begin (omega arith) (omega arith) some)
-
-pub returns-clause-before : goal.returns-clause-before
-returns-clause-before c lbn less =
-    assigned_before (get nat_cmp c.args.ranges.now) (get nat_cmp c.loop-begin.ranges) c.args.first lbn less c.loop-begin.invariant.below
 
 pub returns-clause-after : goal.returns-clause-after
 returns-clause-after c lbn more =

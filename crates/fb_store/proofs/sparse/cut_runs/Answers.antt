@@ -1,8 +1,7 @@
-use Rattle.std.proofs.Common.{◌∙◌, ◌+◌, arith}
+use Rattle.std.proofs.Common.{◌∙◌, ◌+◌}
 use Rattle.std.specs.Ordering.{nat_cmp}
 use Rattle.std.specs.BTreeMap.{ContainsKey}
 use Rattle.fb_store.specs.declared.content.ContentRun.{ContentRun}
-use Rattle.std.proofs.lemmas.Option.{slice_get_within}
 use Rattle.fb_store.proofs.Held.{some_there}
 use Rattle.fb_store.proofs.Taken.{so_far_more}
 use Rattle.fb_store.proofs.sparse.cut_runs.Goals as goal
@@ -20,7 +19,3 @@ loop-i-preserved c = record {
         some_there _ _ c.in_ok-cut-2.ensures.begins,
       );
 }
-
-pub returns-clause-begins : goal.returns-clause-begins
-returns-clause-begins c i run at = c.loop-i.invariant.begins i run (let within = slice_get_within c.args.contents.now i run at in
-    omega (arith, c.loop-i-test.false, c.len-i-end.ensures)) at

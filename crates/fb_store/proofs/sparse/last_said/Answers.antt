@@ -5,13 +5,13 @@ use Rattle.std.specs.BTreeMap.{get}
 use Rattle.fb_store.specs.Ranges.{held_of}
 use Rattle.fb_store.specs.Sparse.{after_taking}
 use Rattle.fb_store.specs.Runs.{sectors_of}
-use Rattle.fb_store.proofs.Taken.{held_at-empty, taken_more, said_again}
+use Rattle.fb_store.proofs.Taken.{held_at_empty, taken_more, said_again}
 use Rattle.fb_store.proofs.sparse.last_said.Goals as goal
 
 pub loop-i-init : goal.loop-i-init
 loop-i-init c = record {
-  past = λ lbn past. held_at-empty c.new-ranges.result.entries lbn c.new-ranges.ensures.empty;
-  so_far = λ lbn. held_at-empty c.new-ranges.result.entries lbn c.new-ranges.ensures.empty;
+  past = λ lbn past. held_at_empty c.new-ranges.result.entries lbn c.new-ranges.ensures.empty;
+  so_far = λ lbn. held_at_empty c.new-ranges.result.entries lbn c.new-ranges.ensures.empty;
 }
 
 pub loop-i-preserved : goal.loop-i-preserved

@@ -1,5 +1,4 @@
 use Rattle.std.proofs.Common.{ap, sym, ◌∙◌}
-use Rattle.fb_units.proofs.Lists.{on_err}
 use Rattle.std.proofs.lemmas.Result.{on_ok_weaker}
 use Rattle.std.specs.Ordering.{nat_cmp}
 use Rattle.std.specs.BTreeMap.{get}
@@ -12,9 +11,6 @@ use Rattle.fb_store.proofs.sparse.take_runs.Goals as goal
 pub returns-clause-ok : goal.returns-clause-ok
 returns-clause-ok c lbn =
     c.assign_runs.ensures.value lbn ∙ ap (after_taking (sectors_of c.args.contents.now) lbn) (c.in_ok-cut_runs.ensures.same lbn)
-
-pub returns-in_err-cut_runs-clause-err : goal.returns-in_err-cut_runs-clause-err
-returns-in_err-cut_runs-clause-err c = on_err c.from_residual.result (λ lbn. c.in_err-cut_runs.ensures.same lbn)
 
 pub returns-clause-past : goal.returns-clause-past
 returns-clause-past c ends = c.assign_runs.ensures.past (λ lbn past. c.cut_runs.ensures.same lbn ∙ ends lbn past)

@@ -1,7 +1,6 @@
 use Rattle.std.proofs.Common.{refl, ◌∙◌, arith}
 use Rattle.std.specs.Ordering.{nat_cmp}
 use Rattle.std.specs.BTreeMap.{get}
-use Rattle.fb_units.proofs.Lists.{on_err}
 use Rattle.fb_store.specs.Ranges.{held_of}
 use Rattle.fb_store.proofs.Taken.{taken_run}
 use Rattle.fb_store.proofs.sparse.write_run.Goals as goal
@@ -14,9 +13,6 @@ returns-clause-ok c lbn = taken_run c.args.run.now lbn (held_of (get nat_cmp c.a
 pub returns-then-run-eq0-clause-ok : goal.returns-then-run-eq0-clause-ok
 returns-then-run-eq0-clause-ok c lbn = taken_run c.args.run.now lbn (held_of (get nat_cmp c.args.ranges.now) lbn)
     (held_of (get nat_cmp c.args.ranges.now) lbn) (λ from to. absurd (omega (arith, c.if-run-eq0.true))) (λ less. refl) (λ more. refl)
-
-pub returns-in_err-write-clause-err : goal.returns-in_err-write-clause-err
-returns-in_err-write-clause-err c = on_err c.from_residual.result c.in_err-write.ensures.err
 
 pub returns-clause-past : goal.returns-clause-past
 returns-clause-past c ends lbn past = c.in_ok-write.ensures.after lbn (omega (arith, c.requires)) ∙ ends lbn past

@@ -3,14 +3,9 @@ use Rattle.std.specs.List.{range_with_len}
 use Rattle.fb_store.specs.Ranges.{held_at}
 use Rattle.fb_store.specs.Sparse.{held_in}
 use Rattle.fb_store.specs.Runs.{runs_of, sectors_of}
-use Rattle.fb_store.proofs.Joined.{fewest-again}
+use Rattle.fb_store.proofs.Joined.{fewest_again}
 use Rattle.fb_store.proofs.Taken.{added_more, none_added}
 use Rattle.fb_store.proofs.sparse.SparseContents.add_runs.Goals as goal
-
-pub add_range-requires-clause-fewest : goal.add_range-requires-clause-fewest
-add_range-requires-clause-fewest c =
-    (fewest-again (sectors_of c.args.runs.now ++ held_in (held_at c.args.self.now) (range_with_len c.args.first
-    (c.loop-lbn.lbn - c.args.first))) c.loop-lbn.runs c.loop-lbn.invariant.so_far).1
 
 pub loop-lbn-preserved : goal.loop-lbn-preserved
 loop-lbn-preserved c =
@@ -34,7 +29,7 @@ loop-lbn-init c =
       stop = refl;
       so_far = none_added c.args.runs.now (held_in (held_at c.args.self.now) (range_with_len c.args.first (c.args.first - c.args.first)))
           (ap (λ n. held_in (held_at c.args.self.now) (range_with_len c.args.first n)) none)
-          (fewest-again c.requires.fewest.0 c.args.runs.now c.requires.fewest.1).1;
+          (fewest_again c.requires.fewest.0 c.args.runs.now c.requires.fewest.1).1;
     }
 
 pub returns : goal.returns
@@ -44,4 +39,4 @@ returns c sectors e =
     let all : c.loop-lbn.lbn - c.args.first ≡ c.args.count = omega arith in
     c.loop-lbn.invariant.so_far
     ∙ ap₂ (λ before n. runs_of (before ++ held_in (held_at c.args.self.now) (range_with_len c.args.first n)))
-    (fewest-again sectors c.args.runs.now e).0 all
+    (fewest_again sectors c.args.runs.now e).0 all
