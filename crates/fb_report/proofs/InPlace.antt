@@ -21,6 +21,9 @@ module _ (grammar : Grammar) (many index : ℕ) (line : List ℕ) where
       let here : (index + 1 == many) ≡ true = grind (arith, nat_tests) in
       record { part = is.part; is_ended = is.is_ended; whole = is.whole; passes = rw (later, here) is.passes }
 
+-- the first line and the last
+pub ruleset at_ends = (at_first, at_last)
+
 -- what holds of the lines before an index and of the line there holds of one more
 pub one_line_more : (P : ℕ → List ℕ → Type 0) (lines : List (List ℕ)) (now : ℕ) (here : List ℕ) → slice_get lines now ≡ Some here
     → ((index : ℕ) (line : List ℕ) → index < now → slice_get lines index ≡ Some line → P index line) → P now here

@@ -20,8 +20,8 @@ stays_below-not n byte bytes past = elim (cases_Bool (is_ascii_digit byte)) [
 ]
 
 -- no digit is left
-pub stays_below-end : (n : ℕ) (text : List ℕ) (i : ℕ) → n < 2 ^ 64 → length text ≤ i → stays_below n (drop i text) ≡ true
-stays_below-end n text i small past = ap (stays_below n) (drop_all i text past) ∙ grind (arith, nat_tests)
+pub stays_below_end : (n : ℕ) (text : List ℕ) (i : ℕ) → n < 2 ^ 64 → length text ≤ i → stays_below n (drop i text) ≡ true
+stays_below_end n text i small past = ap (stays_below n) (drop_all i text past) ∙ grind (arith, nat_tests)
 
 -- digits with these digits behind them
 below : (n : ℕ) (digits : List ℕ) → list_all is_ascii_digit digits ≡ true → digits_after n digits < (n + 1) * 10 ^ length digits

@@ -26,6 +26,7 @@ pub fn back_pieces(run: &Run) -> u64
 /// The line at this index, counted from 0, of the background report, with its line feed.
 ///
 /// `sector_bytes` is the size of a sector, a multiple of 16, and `names` are the tasks' names.
+#[tactic(auto, using(crate::proofs::Lines::line_first, crate::proofs::Lines::back_are, crate::proofs::InPlace::at_ends))]
 pub fn back_piece(
     alloc: Global,
     run: &Run,
@@ -55,6 +56,7 @@ pub fn back_piece(
 /// The whole background report: its lines one after another.
 ///
 /// `sector_bytes` is the size of a sector, a multiple of 16, and `names` are the tasks' names.
+#[tactic(auto, using(crate::proofs::Lines::text_ends))]
 pub fn back_text(
     alloc: Global,
     run: &Run,
@@ -84,6 +86,7 @@ pub fn back_first(alloc: Global) -> Result<Vec<u8>, NoMemory>
 
 /// The last line of a background report, with its line feed: the instant, in ns, at which the run
 /// ends.
+#[tactic(auto, using(crate::proofs::PrintedRows::ended_as, crate::proofs::PrintedRows::back_last_is))]
 pub fn back_last(alloc: Global, end: Ns) -> Result<Vec<u8>, NoMemory>
     ensures value { IfOk result (λ line. line.items ≡ back_last end) }
     ensures form { IfOk result (λ line. IsLine (is_last back_grammar) line.items) }

@@ -54,6 +54,7 @@ fn digest(alloc: Global, contents: &Contents, sector_bytes: u32) -> Result<Vec<u
     Ok(text)
 }
 
+#[tactic(auto, using(crate::proofs::Digits::no_digits))]
 fn dump(alloc: Global, contents: &Contents, sector_bytes: u32) -> Result<Vec<u8>, NoMemory>
     requires whole { sector_bytes % 16 ≡ 0 }
     ensures { IfOk result (λ field. field.items ≡ shown Bytes.Dump sector_bytes contents.now) }

@@ -26,6 +26,7 @@ pub fn fore_pieces(run: &Run) -> u64
 /// The line at this index, counted from 0, of the foreground report, with its line feed.
 ///
 /// `sector_bytes` is the size of a sector, a multiple of 16.
+#[tactic(auto, using(crate::proofs::Lines::line_first, crate::proofs::Lines::fore_are, crate::proofs::InPlace::at_ends))]
 pub fn fore_piece(
     alloc: Global,
     run: &Run,
@@ -53,6 +54,7 @@ pub fn fore_piece(
 /// The whole foreground report: its lines one after another.
 ///
 /// `sector_bytes` is the size of a sector, a multiple of 16.
+#[tactic(auto, using(crate::proofs::Lines::text_ends))]
 pub fn fore_text(
     alloc: Global,
     run: &Run,
@@ -80,6 +82,7 @@ pub fn fore_first(alloc: Global) -> Result<Vec<u8>, NoMemory>
 
 /// The last line of a foreground report, with its line feed: how many rows it has, and how many
 /// requests were passed over.
+#[tactic(auto, using(crate::proofs::PrintedRows::ended_as, crate::proofs::PrintedRows::fore_last_is))]
 pub fn fore_last(alloc: Global, rows: u64, passed_over: u64) -> Result<Vec<u8>, NoMemory>
     ensures value { IfOk result (λ line. line.items ≡ fore_last rows passed_over) }
     ensures form { IfOk result (λ line. IsLine (is_last fore_grammar) line.items) }

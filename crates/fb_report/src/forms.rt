@@ -73,6 +73,7 @@ fn are_all_digits(text: &[u8]) -> bool
 }
 
 // Whether a text is digits alone, which give a number below 2^64.
+#[tactic(auto, using(crate::proofs::Numbers::few_stay_below, crate::proofs::Numbers::stays_below_end))]
 fn stays_small(text: &[u8]) -> bool
     ensures { result ≡ (list_all is_ascii_digit text.now && nat_lt (digits_after 0 text.now) (2 ^ 64)) }
 {
@@ -137,6 +138,7 @@ fn is_lower_hex(byte: u8) -> bool
 }
 
 /// The text before the first `stop` byte and the text behind it; none if there is no such byte.
+#[tactic(auto, using(crate::proofs::Cuts::cut_at, crate::proofs::Cuts::cut_nowhere))]
 pub fn split_once(text: &[u8], stop: u8) -> Option<(&[u8], &[u8])>
     ensures some { IfSome result (λ parts. (position_or_len (λ byte. byte == stop) text.now < length text.now)
         × (parts.0.now ≡ before_first (λ byte. byte == stop) text.now) × (parts.1.now ≡ after_first (λ byte. byte == stop) text.now)) }

@@ -171,6 +171,7 @@ impl<'a> Fields<'a> {
     }
 
     // Whether these fields are what the forms ask for, one for each.
+    #[tactic(auto, using(crate::proofs::Rows::too_few, crate::proofs::Cuts::listed_left))]
     fn have_forms(self, forms: &[Form]) -> bool
         ensures { result ≡ have_forms (map fits forms.now) (listed self.entry) }
     {

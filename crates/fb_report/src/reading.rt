@@ -54,6 +54,7 @@ pub fn read_back(alloc: Global, bytes: &[u8]) -> Result<ReportLines, ReportsErro
 }
 
 /// As `read_fore`, but the lines stay parts of the text.
+#[tactic(auto, using(crate::proofs::Whole::whole_text))]
 pub fn split_fore(alloc: Global, bytes: &[u8]) -> Result<TextLines<'_>, ReportsError>
     ensures answer { AnswersReport ForeReport result (report_of fore_grammar bytes.now) }
     ensures whole { IfOk result (λ lines. flat_map spelled lines ≡ bytes.now) }
@@ -62,6 +63,7 @@ pub fn split_fore(alloc: Global, bytes: &[u8]) -> Result<TextLines<'_>, ReportsE
 }
 
 /// As `read_back`, but the lines stay parts of the text.
+#[tactic(auto, using(crate::proofs::Whole::whole_text))]
 pub fn split_back(alloc: Global, bytes: &[u8]) -> Result<TextLines<'_>, ReportsError>
     ensures answer { AnswersReport BackReport result (report_of back_grammar bytes.now) }
     ensures whole { IfOk result (λ lines. flat_map spelled lines ≡ bytes.now) }
@@ -71,6 +73,7 @@ pub fn split_back(alloc: Global, bytes: &[u8]) -> Result<TextLines<'_>, ReportsE
 
 /// The last line of a report begins with an e, and no other does; and each line has at most 16
 /// fields.
+#[tactic(auto, using(crate::proofs::EndsOnce::reports_end_once))]
 pub fn reports_end_once()
     ensures { ReportsEndOnce }
 {}

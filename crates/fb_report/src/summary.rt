@@ -75,6 +75,7 @@ struct Served {
 }
 
 impl Served {
+    #[tactic(auto, using(crate::proofs::Sums::ends, std::proofs::lemmas::List::drop_all))]
     fn of(rows: &ForeRows) -> Served
         ensures sectors { result.sectors ≡ sum_by (λ row. row.request.count) rows.now }
         ensures finish { result.finish ≡ fold max 0 (map (λ row. row.finish) rows.now) }
@@ -98,6 +99,7 @@ impl Served {
 }
 
 // How many gaps there were.
+#[tactic(auto, using(crate::proofs::Sums::none_left))]
 fn gaps(rows: &BackRows) -> u128
     ensures { result ≡ length (filter_map gap_in rows.now) }
 {
@@ -119,6 +121,7 @@ struct Delivered {
 }
 
 impl Delivered {
+    #[tactic(auto, using(crate::proofs::Sums::none_left, crate::proofs::Sums::ends))]
     fn of(rows: &BackRows) -> Delivered
         ensures blocks { result.blocks ≡ length (filter_map delivery_in rows.now) }
         ensures sectors { result.sectors ≡ sum_by (λ row. row.block.count) (filter_map delivery_in rows.now) }
@@ -150,6 +153,7 @@ struct Tasks {
 }
 
 impl Tasks {
+    #[tactic(auto, using(crate::proofs::Sums::ends, crate::proofs::Sums::none_left))]
     fn of(rows: &BackRows) -> Tasks
         ensures complete { result.complete ≡ count_by (λ row. row.complete) (filter_map task_in rows.now) }
         ensures all { result.all ≡ length (filter_map task_in rows.now) }

@@ -44,6 +44,7 @@ impl<'a> TextLines<'a> {
     }
 
     // The lines as lists of fields. The only error is out of memory.
+    #[tactic(auto, using(std::proofs::lemmas::List::take_all))]
     pub(crate) fn copied(&self, alloc: Global) -> Result<ReportLines, NoMemory>
         ensures { IfOk result (λ lines. lines ≡ self.now) }
     {

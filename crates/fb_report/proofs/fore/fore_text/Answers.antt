@@ -1,5 +1,5 @@
-use Rattle.fb_report.proofs.Words.{◌∙◌, ◌++◌, ap, arith, fore_lines, fore_text}
-use Rattle.fb_report.proofs.Lines.{text_more, text_ends}
+use Rattle.fb_report.proofs.Words.{◌∙◌, ◌++◌, ap, fore_lines, fore_text}
+use Rattle.fb_report.proofs.Lines.{text_more}
 use Rattle.fb_report.proofs.fore.fore_text.Goals as goal
 
 pub loop-k-preserved : goal.loop-k-preserved
@@ -7,9 +7,3 @@ loop-k-preserved c =
     text_more (fore_lines c.args.sector_bytes c.args.bytes c.args.run.now) c.loop-k.k c.loop-k.text.items
     (fore_text c.args.sector_bytes c.args.bytes c.args.run.now) c.loop-k.invariant _ _ c.in_ok-line.ensures.value
     (c.in_ok-extend_from_slice.ensures.items ∙ ap (λ line. c.loop-k.text.items ++ line) c.as_slice.ensures.value)
-
-pub returns : goal.returns
-returns c =
-    text_ends (fore_lines c.args.sector_bytes c.args.bytes c.args.run.now) c.loop-k.k c.loop-k.text.items
-    (fore_text c.args.sector_bytes c.args.bytes c.args.run.now) c.loop-k.invariant
-    (omega (arith, c.loop-k-test.false, c.fore_pieces-k-end.ensures.lines c.args.sector_bytes c.args.bytes))

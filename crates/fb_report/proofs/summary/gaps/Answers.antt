@@ -1,5 +1,5 @@
 use Rattle.fb_report.proofs.Words.{ap, arith, length, gap_in}
-use Rattle.fb_report.proofs.Sums.{found_at, nothing_at, none_left, no_gap}
+use Rattle.fb_report.proofs.Sums.{found_at, nothing_at, no_gap}
 use Rattle.fb_report.proofs.summary.gaps.Goals.{in-Gap, in_default}
 use Rattle.fb_report.proofs.summary.gaps.Goals as goal
 
@@ -15,6 +15,3 @@ loop-i-preserved c =
           nothing_at gap_in c.args.rows.now c.loop-i.i c.get.result.now c.get.ensures (no_gap c.get.result.now w.in_default.not-Gap) in
           record { gaps = omega (arith, w.gaps-is, so_far.gaps, ap length other); few = omega (arith, w.gaps-is, so_far.few) }
     ]
-
-pub returns : goal.returns
-returns c = omega (arith, c.loop-i.invariant.gaps, ap length (none_left gap_in c.args.rows.now c.loop-i.i (omega arith)))

@@ -1,5 +1,5 @@
 use Rattle.fb_report.proofs.Words.{ap, arith, length, delivery_in}
-use Rattle.fb_report.proofs.Sums.{found_at, nothing_at, none_left, goes_on, stays, ends, no_delivery}
+use Rattle.fb_report.proofs.Sums.{found_at, nothing_at, goes_on, stays, no_delivery}
 use Rattle.fb_report.proofs.summary.Delivered.of.Goals.{in-Got, in_default}
 use Rattle.fb_report.proofs.summary.Delivered.of.Goals as goal
 
@@ -30,13 +30,3 @@ loop-i-preserved c =
             few_bad = omega (arith, w.bad-is, so_far.few_bad);
           }
     ]
-
-pub returns-clause-blocks : goal.returns-clause-blocks
-returns-clause-blocks c =
-    omega (arith, c.loop-i.invariant.blocks, ap length (none_left delivery_in c.args.rows.now c.loop-i.i (omega arith)))
-
-pub returns-clause-sectors : goal.returns-clause-sectors
-returns-clause-sectors c = ends _ _ _ _ c.loop-i.invariant.sectors (none_left delivery_in c.args.rows.now c.loop-i.i (omega arith))
-
-pub returns-clause-bad : goal.returns-clause-bad
-returns-clause-bad c = ends _ _ _ _ c.loop-i.invariant.bad (none_left delivery_in c.args.rows.now c.loop-i.i (omega arith))

@@ -1,6 +1,6 @@
 use Rattle.fb_units.proofs.Lists.{drop_at}
-use Rattle.fb_report.proofs.Words.{arith, refl, ap, ◌+◌, map, ◌∙◌, drop_all}
-use Rattle.fb_report.proofs.{Sums.goes_on, Sums.ends, Sums.greater}
+use Rattle.fb_report.proofs.Words.{arith, refl, ap, ◌+◌, map, ◌∙◌}
+use Rattle.fb_report.proofs.{Sums.goes_on, Sums.greater}
 use Rattle.fb_report.proofs.summary.Served.of.Goals as goal
 
 pub loop-i-preserved : goal.loop-i-preserved
@@ -16,13 +16,3 @@ loop-i-preserved c =
       few_sectors = omega (arith, so_far.few_sectors);
       short = omega (arith, so_far.short);
     }
-
-pub returns-clause-sectors : goal.returns-clause-sectors
-returns-clause-sectors c = ends _ _ _ _ c.loop-i.invariant.sectors (drop_all c.loop-i.i c.args.rows.now (omega arith))
-
-pub returns-clause-finish : goal.returns-clause-finish
-returns-clause-finish c =
-    ends _ _ _ _ c.loop-i.invariant.finish (ap (map (λ row. row.finish)) (drop_all c.loop-i.i c.args.rows.now (omega arith)))
-
-pub returns-clause-response : goal.returns-clause-response
-returns-clause-response c = ends _ _ _ _ c.loop-i.invariant.response (drop_all c.loop-i.i c.args.rows.now (omega arith))

@@ -1,5 +1,5 @@
 use Rattle.fb_report.proofs.Words.{ap, arith, length, ◌+◌, ◌∙◌, task_in}
-use Rattle.fb_report.proofs.Sums.{found_at, nothing_at, none_left, goes_on, stays, ends, no_task}
+use Rattle.fb_report.proofs.Sums.{found_at, nothing_at, goes_on, stays, no_task}
 use Rattle.fb_report.proofs.summary.Tasks.of.Goals.{in-Task, in_default}
 use Rattle.fb_report.proofs.summary.Tasks.of.Goals as goal
 
@@ -26,9 +26,3 @@ loop-i-preserved c =
             few = omega (arith, w.all-is, so_far.few);
           }
     ]
-
-pub returns-clause-complete : goal.returns-clause-complete
-returns-clause-complete c = ends _ _ _ _ c.loop-i.invariant.complete (none_left task_in c.args.rows.now c.loop-i.i (omega arith))
-
-pub returns-clause-all : goal.returns-clause-all
-returns-clause-all c = omega (arith, c.loop-i.invariant.all, ap length (none_left task_in c.args.rows.now c.loop-i.i (omega arith)))

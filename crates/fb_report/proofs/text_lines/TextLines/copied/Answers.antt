@@ -1,5 +1,5 @@
 use Rattle.fb_units.proofs.Lists.{take_at}
-use Rattle.fb_report.proofs.Words.{◌∙◌, ◌++◌, ◌∷◌, [], ap, sym, arith, report_fields, take_all}
+use Rattle.fb_report.proofs.Words.{◌∙◌, ◌++◌, ◌∷◌, [], ap, sym, report_fields}
 use Rattle.fb_report.proofs.text_lines.TextLines.copied.Goals as goal
 
 pub loop-i-preserved : goal.loop-i-preserved
@@ -8,6 +8,3 @@ loop-i-preserved c =
     ∙ ap (λ fields. c.loop-i.lines ++ fields ∷ []) c.in_ok-fields.ensures
     ∙ ap (λ lines. lines ++ report_fields c.get.result.now ∷ []) c.loop-i.invariant
     ∙ sym (take_at c.args.self.now c.loop-i.i (report_fields c.get.result.now) c.get.ensures)
-
-pub returns : goal.returns
-returns c = c.loop-i.invariant ∙ take_all c.loop-i.i c.args.self.now (omega (arith, c.loop-i-test.false, c.len-count.ensures.value))
