@@ -14,6 +14,7 @@ pub fn waits_are_least()
 
 /// The slots of a track follow one another from angle 0 to the end of the rotation, if there are no
 /// more of them than a rotation has nanoseconds. Each angle lies in exactly one slot.
+#[tactic(auto, using(fb_geometry::proofs::Rotation::cover, crate::proofs::Slots::one_slot))]
 pub fn slots_cover_rotation()
     ensures cover { SlotsCoverRotation }
     ensures one { AnglesHaveOneSlot }
@@ -26,11 +27,13 @@ pub fn passages_begin_first()
 {}
 
 /// No slot of a disk holds two sectors, and no bad slot holds any.
+#[tactic(auto, using(crate::proofs::Disks::are_own))]
 pub fn places_are_own()
     ensures { PlacesAreOwn }
 {}
 
 /// A disk has the sectors of its zones, and all cylinders of a zone have the same number.
+#[tactic(auto, using(crate::proofs::Disks::places_length))]
 pub fn sectors_by_zone()
     ensures { SectorsByZone }
 {}
@@ -63,18 +66,21 @@ pub fn one_plain_replay()
 {}
 
 /// A gap has at most one best plan.
+#[tactic(auto, using(crate::proofs::FullRuns::one_best))]
 pub fn one_best_plan()
     ensures { OneBestPlan }
 {}
 
 /// A gap in which the head can go straight to the target, as in every gap of a run, has exactly one
 /// best plan: the best of those whose leaves are worth a try.
+#[tactic(auto, using(crate::proofs::BestPlans::best_plans_exist))]
 pub fn best_plans_exist()
     ensures { BestPlansExist }
 {}
 
 /// The state of a registered block doesn't depend on the state that it is taken to have before the first
 /// event.
+#[tactic(auto, using(crate::proofs::States::states_begin), unfolding(crate::specs::History::bare_state))]
 pub fn states_begin_with_registration()
     ensures { StatesBeginWithRegistration }
 {}
