@@ -16,6 +16,7 @@ use fb_model::{foreground_lists_ascend, one_plain_replay};
 
 /// A write leaves its number in the sectors of its request, at its finish; a delivery gives the
 /// sectors of its block what they held, at its end. Neither concerns any other sector.
+#[tactic(auto, using(crate::proofs::EventLaws::write_gives, crate::proofs::EventLaws::delivery_gives))]
 pub fn events_concern_their_sectors()
     ensures write { (row : ForeRow) (lbn : ℕ) → row.request.write ≡ true → decided lbn (writes_in row)
         ≡ if is_within row.request.lbn row.request.count lbn then Some (row.finish, Filled (writer_of row.request.name)) else None }
@@ -26,6 +27,7 @@ pub fn events_concern_their_sectors()
 
 /// The event that decides for a sector is the latest of those that concern it, and of equals the
 /// last; no other decides. Where none decides, none concerns it. So a copy has exactly one content.
+#[tactic(auto, using(crate::proofs::EventLaws::latest_decides, crate::proofs::EventLaws::none_given))]
 pub fn latest_events_decide()
     ensures decides { (lbn : ℕ) (events : List Event) (last : ℕ × Content) → decided lbn events ≡ Some last → Decides lbn events last }
     ensures only { (lbn : ℕ) (events : List Event) (last : ℕ × Content) → Decides lbn events last → decided lbn events ≡ Some last }
@@ -33,6 +35,7 @@ pub fn latest_events_decide()
 {}
 
 /// All sectors that the events of a full run concern are sectors of its disk.
+#[tactic(auto, using(crate::proofs::OnTheDisk::all_within))]
 pub fn runs_lie_on_the_disk()
     ensures { RunsLieOnTheDisk }
 {
@@ -43,6 +46,7 @@ pub fn runs_lie_on_the_disk()
 /// A sector that a write or a delivery of a full run concerned holds in the replacement what it
 /// holds on the survivor: at the end of the run, and before it at each instant at which no write is
 /// under way.
+#[tactic(auto, using(crate::proofs::Survival::held_survives, crate::proofs::AtRest::held_at_rest))]
 pub fn covered_sectors_are_the_survivors()
     ensures at_end { CoveredSectorsAreTheSurvivors }
     ensures at_rest { CoveredSectorsAreTheSurvivorsAtRest }

@@ -28,6 +28,7 @@ pub struct Rebuilt {
 /// The replacement of a lost disk of `count` sectors: it gets each foreground write of the
 /// survivor's run at its finish, and each delivered block at its end; at one instant a write comes
 /// before a delivery, and otherwise the order of the run holds. The only error is `NoMemory`.
+#[tactic(auto, using(crate::proofs::Covering::within_more, crate::proofs::Covering::whole_few))]
 pub fn rebuild(alloc: Global, count: u64, run: &Run) -> Result<Rebuilt, NoMemory>
     requires disk { count ≤ 10 ^ 12 }
     requires ranges { AllByRecursion (IsWithin count) (events run.now) }
@@ -77,6 +78,7 @@ fn over_unreadable(alloc: Global, count: u64, contents: &Contents) -> Result<Con
 }
 
 // The instant of the seal, if there is one.
+#[tactic(auto, using(crate::proofs::Listing::seal_found))]
 fn sealed(rows: &BackRows) -> Option<Ns>
     ensures { result ≡ sealed_in rows.now }
 {

@@ -1,16 +1,11 @@
-use Rattle.std.proofs.Common.{◌^◌, None, arith, ◌∙◌}
+use Rattle.std.proofs.Common.{None, arith, ◌∙◌}
 use Rattle.std.specs.Prelude.{is_some}
 use Rattle.std.specs.List.{range_with_len}
-use Rattle.std.specs.Option.{unwrap_or}
-use Rattle.fb_store.specs.declared.content.Content.TheVariants.{Unreadable}
 use Rattle.fb_store.specs.Runs.{sectors_of}
 use Rattle.fb_store.specs.Sparse.{after_taking}
 use Rattle.fb_mirror.specs.Replacement.{events, held_after}
-use Rattle.fb_mirror.proofs.Covering.{held_sum, kept_few, whole_few, within_more}
+use Rattle.fb_mirror.proofs.Covering.{held_sum, kept_few}
 use Rattle.fb_mirror.proofs.rebuilt.rebuild.Goals as goal
-
-pub contents_in_order-requires : goal.contents_in_order-requires
-contents_in_order-requires c = within_more c.args.count (10 ^ 12) (events c.args.run.now) c.requires.disk c.requires.ranges
 
 pub over_unreadable-requires-clause-ranges : goal.over_unreadable-requires-clause-ranges
 over_unreadable-requires-clause-ranges c = c.in_ok-contents.ensures.within c.args.count c.requires.ranges
@@ -37,8 +32,3 @@ returns-clause-most c =
     let held = held_after (events c.args.run.now) in
     let few = kept_few (λ lbn. is_some (held lbn)) 0 c.args.count in
     omega (arith, few, returns-clause-covered c)
-
-pub returns-clause-few : goal.returns-clause-few
-returns-clause-few c =
-    whole_few (λ lbn. (lbn, unwrap_or (after_taking (sectors_of c.in_ok-contents.contents) lbn None) Unreadable)) c.in_ok-content.content
-    c.args.count c.in_ok-content.ensures
