@@ -43,6 +43,7 @@ fn comes_no_later(best: Candidate, wait: Ns, number: u64) -> bool
 }
 
 // The soonest of a candidate and of the requests of an arc.
+#[tactic(auto, using(crate::proofs::Passing::none_passed))]
 fn soonest_of_arc(
     waiting: &BTreeMap<(u64, u64), Request>,
     disk: &Disk,
@@ -82,6 +83,7 @@ fn soonest_of_arc(
 /// instant `now`, in ns; of several that pass at the same time, of the one that joined first.
 ///
 /// The requests are looked at as their angles pass, until none of the others can be sooner.
+#[tactic(auto, using(crate::proofs::Passing::arc_behind, crate::proofs::Least::waits_there))]
 pub fn first_by_angle(
     waiting: &BTreeMap<(u64, u64), Request>,
     disk: &Disk,

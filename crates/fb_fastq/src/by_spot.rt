@@ -122,6 +122,7 @@ pub fn next_in(
 ///
 /// The search begins `from` spots behind `start`, and goes on from the ring's end to its start. Of
 /// several requests at one spot the one that joined first is found.
+#[tactic(auto, using(crate::proofs::Turns::next_ahead))]
 pub fn next_round(
     waiting: &BTreeMap<(u64, u64), Request>,
     start: u64,

@@ -54,6 +54,7 @@ impl<M: Placing> LatePlacing<M> {
     }
 
     // Takes the first request with the least key, of those that are placed and those that aren't.
+    #[tactic(auto, using(fb_units::proofs::Lists::all_left))]
     fn take_of_both(&mut self, disk: &Disk, head: Track, now: Ns) -> Request
         requires some { 0 < length self.old.arrived.items }
         requires fits { M.fits self.old.placed disk.now }
@@ -77,6 +78,7 @@ impl<M: Placing> LatePlacing<M> {
 }
 
 // Places requests in order, until memory is refused. How many are placed.
+#[tactic(auto, using(fb_units::proofs::Lists::all_at))]
 fn place_all<M: Placing>(placed: &mut M, disk: &Disk, arrived: &[Request]) -> usize
     requires fits { M.fits placed.old disk.now }
     requires on_disk { AllByRecursion (IsRequestOf disk.now.map) arrived.now }

@@ -120,6 +120,7 @@ fn occupied_on<'a>(
 }
 
 // The soonest of what is picked and the requests of the cylinders on one side of the head.
+#[tactic(auto, using(crate::proofs::Outwards::fewer_rows))]
 fn walk(
     rows: &[Vec<((u64, u64), Request)>],
     occupied: &BTreeSet<u32>,
@@ -253,6 +254,7 @@ pub fn put(
 // Adds a request to a row.
 //
 // The only error is out of memory, after which the same requests wait.
+#[tactic(auto, using(crate::proofs::OneMore::row_there, crate::proofs::OneMore::same_rows))]
 fn add_to(
     rows: &mut Vec<Vec<((u64, u64), Request)>>,
     number: u32,

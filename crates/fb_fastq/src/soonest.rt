@@ -97,6 +97,7 @@ fn soonest_of_lane(
 }
 
 // The soonest of a candidate and of the requests of a ray, as far as the first lane on which more than a few wait.
+#[tactic(auto, using(crate::proofs::Walks::fewer_left))]
 fn walk(
     waiting: &BTreeMap<(u64, u64), Request>,
     disk: &Disk,

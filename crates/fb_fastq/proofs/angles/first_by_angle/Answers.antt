@@ -1,23 +1,11 @@
 use Rattle.fb_fastq.proofs.Words.{◌∙◌, ap, refl}
-use Rattle.fb_fastq.proofs.Least.{waits_there}
-use Rattle.fb_fastq.proofs.Passing.{arc_ahead, arc_behind, first_of_arcs}
+use Rattle.fb_fastq.proofs.Passing.{arc_ahead, first_of_arcs}
 use Rattle.fb_fastq.proofs.angles.first_by_angle.Goals as goal
 
 pub soonest_of_arc-best-requires-clause-arc : goal.soonest_of_arc-best-requires-clause-arc
 soonest_of_arc-best-requires-clause-arc c =
     arc_ahead c.args.disk.now c.args.now _ c.rotation-rotation.result
     (c.rotation-rotation.ensures.value ∙ ap (λ map. map.rotation) c.geometry.ensures) refl
-
-pub soonest_of_arc-requires-clause-arc : goal.soonest_of_arc-requires-clause-arc
-soonest_of_arc-requires-clause-arc c =
-    arc_behind c.args.disk.now c.args.now _ c.rotation-rotation.result
-    (c.rotation-rotation.ensures.value ∙ ap (λ map. map.rotation) c.geometry.ensures) refl
-
-pub returns-clause-found : goal.returns-clause-found
-returns-clause-found c =
-    let found = c.soonest_of_arc.ensures.found (c.soonest_of_arc-best.ensures.found
-    (record { request = c.next_or_first.result.1; waits = c.next_or_first.ensures.found; wait = c.key_of-wait.ensures })) in
-    waits_there c.args.waiting.now c.soonest_of_arc.result.key found.request found.waits
 
 pub returns-clause-first : goal.returns-clause-first
 returns-clause-first c =

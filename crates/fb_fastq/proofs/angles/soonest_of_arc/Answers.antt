@@ -1,9 +1,6 @@
 use Rattle.fb_fastq.proofs.Words.{arith}
-use Rattle.fb_fastq.proofs.Passing.{none_passed, arc_stops, passes_on}
+use Rattle.fb_fastq.proofs.Passing.{arc_stops, passes_on}
 use Rattle.fb_fastq.proofs.angles.soonest_of_arc.Goals as goal
-
-pub loop-key-init : goal.loop-key-init
-loop-key-init c = none_passed c.args.disk.now c.args.head c.args.now c.args.waiting.now c.requires.spots c.args.arc c.requires.arc c.args.first
 
 pub loop-key-preserved : goal.loop-key-preserved
 loop-key-preserved c =

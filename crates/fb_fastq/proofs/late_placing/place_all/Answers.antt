@@ -1,15 +1,9 @@
 use Rattle.std.proofs.lemmas.List.{take_more}
-use Rattle.fb_units.proofs.Lists.{all_at}
-use Rattle.fb_model.specs.Accepted.{IsRequestOf}
 use Rattle.fb_fastq.proofs.Words.{◌++◌, ◌∷◌, [], ◌∙◌, ap, sym, take, get_or, append-nil, append_assoc}
 use Rattle.fb_fastq.proofs.late_placing.place_all.Goals as goal
 
 pub loop-i-init : goal.loop-i-init
 loop-i-init g c = record { pending = sym (append-nil _); fits = c.requires.fits }
-
-pub place-requires-clause-on_disk : goal.place-requires-clause-on_disk
-place-requires-clause-on_disk g c =
-    all_at (IsRequestOf c.args.disk.now.map) c.args.arrived.now c.loop-i.i _ c.requires.on_disk c.loop-i-test.true
 
 pub loop-i-preserved : goal.loop-i-preserved
 loop-i-preserved g c =

@@ -1,16 +1,11 @@
 use Rattle.fb_fastq.proofs.Words.{on_err}
-use Rattle.fb_fastq.proofs.OneMore.{row_there, push_more, set_same, set_more, same_rows, more_rows, occupied_set}
+use Rattle.fb_fastq.proofs.OneMore.{row_there, push_more, set_same, set_more, more_rows, occupied_set}
 use Rattle.fb_fastq.proofs.rows.add_to.Goals as goal
 
 pub returns-in_err-push-clause-err : goal.returns-in_err-push-clause-err
 returns-in_err-push-clause-err c =
     let there = row_there c.args.rows.now.items c.args.number c.index_mut.result.now c.requires.there c.index_mut.ensures.value in
     on_err c.from_residual.result (set_same _ c.args.number _ c.push.new.self there (c.in_err-push.ensures).items)
-
-pub returns-in_err-push-clause-rows : goal.returns-in_err-push-clause-rows
-returns-in_err-push-clause-rows c =
-    let there = row_there c.args.rows.now.items c.args.number c.index_mut.result.now c.requires.there c.index_mut.ensures.value in
-    same_rows _ c.args.number _ c.push.new.self there (c.in_err-push.ensures).items
 
 pub returns-clause-more : goal.returns-clause-more
 returns-clause-more c =

@@ -1,5 +1,5 @@
 use Rattle.fb_fastq.proofs.Words.{slice_get, ap, ◌∙◌}
-use Rattle.fb_fastq.proofs.Outwards.{outwards_begins, outwards_goes_on, outwards_stops, outwards_ends, next_on_disk, fewer_rows}
+use Rattle.fb_fastq.proofs.Outwards.{outwards_begins, outwards_goes_on, outwards_stops, outwards_ends, next_on_disk}
 use Rattle.fb_fastq.proofs.Swept.{none_left}
 use Rattle.fb_fastq.proofs.rows.walk.Goals as goal
 
@@ -24,10 +24,6 @@ loop-cylinder-preserved c =
     outwards_goes_on c.loop-cylinder.invariant c.requires.rows c.requires.spots c.in-Some.cylinder.now c.next.new.left c.in-Some.ensures
     c.soonest_of_row-pick.result row.pick row.first
     (λ other there. row.least other (ap (slice_get c.args.rows.now) at ∙ there))
-
-pub loop-cylinder-smaller : goal.loop-cylinder-smaller
-loop-cylinder-smaller c =
-    fewer_rows c.loop-cylinder.invariant c.requires.rows c.requires.spots c.in-Some.cylinder.now c.next.new.left c.in-Some.ensures
 
 pub returns-clause-pick : goal.returns-clause-pick
 returns-clause-pick c = c.loop-cylinder.invariant.picks

@@ -1,5 +1,5 @@
 use Rattle.fb_fastq.proofs.Words.{Waiting}
-use Rattle.fb_fastq.proofs.Walks.{spot, walk_begins, fewer_left, next_along, walk_goes_on, walk_reaches, walk_pauses, walk_stops}
+use Rattle.fb_fastq.proofs.Walks.{spot, walk_begins, next_along, walk_goes_on, walk_reaches, walk_pauses, walk_stops}
 use Rattle.fb_fastq.proofs.Swept.{swept_ends, none_left}
 use Rattle.fb_fastq.proofs.soonest.walk.Goals as goal
 
@@ -42,10 +42,6 @@ loop-key-preserved c =
       walk = walk_goes_on walk c.requires.spots next rest c.in-Some.ensures c.wait-wait.result c.sooner-best.result wait
           c.sooner-best.ensures.one c.sooner-best.ensures.first c.sooner-best.ensures.second;
     }
-
-pub loop-key-smaller : goal.loop-key-smaller
-loop-key-smaller c =
-    fewer_left c.loop-key.invariant.walk c.requires.spots (c.in-Some.key.now, c.in-Some.field-0-1.now) c.next.new.left c.in-Some.ensures
 
 pub returns-clause-least : goal.returns-clause-least
 returns-clause-least c = λ k r held on nearer.

@@ -2,7 +2,7 @@ use Rattle.fb_model.specs.Accepted.{IsRequestOf}
 use Rattle.fb_queue.specs.Least.{IsFirstLeastAt}
 use Rattle.fb_queue.proofs.FirstLeast.{first_least_at}
 use Rattle.fb_units.proofs.Lists.{all_at, one_element}
-use Rattle.fb_fastq.proofs.Words.{◌≤◌, ◌++◌, ◌<◌, ◌∙◌, List, Some, ap, refl, arith, length, remove, AllByRecursion, all_left, all_right, sym, subst}
+use Rattle.fb_fastq.proofs.Words.{◌≤◌, ◌++◌, ◌<◌, ◌∙◌, List, Some, ap, refl, arith, length, remove, AllByRecursion, all_right, sym, subst}
 use Rattle.fb_fastq.proofs.Words.{slice_get, slice_get_read, nil_from_length, Request, nat_tests}
 use Rattle.fb_fastq.proofs.Both.{first_left, first_right, some_first}
 use Rattle.fb_fastq.proofs.late_placing.LatePlacing.take_of_both.Goals.{then-not-is_empty+else-least-key_of, else-not-is_empty}
@@ -13,14 +13,6 @@ first_least-index-requires-clause-on_disk g c =
     let is = IsRequestOf c.args.disk.now.map in
     subst (AllByRecursion is) (sym c.as_slice.ensures.value)
     (all_right is (g.M.Placing.pending c.args.self.now.placed) c.args.self.now.arrived.items c.requires.on_disk)
-
-pub least_key-least-requires-clause-on_disk : goal.least_key-least-requires-clause-on_disk
-least_key-least-requires-clause-on_disk g c =
-    all_left (IsRequestOf c.args.disk.now.map) (g.M.Placing.pending c.args.self.now.placed) c.args.self.now.arrived.items c.requires.on_disk
-
-pub take-requires-clause-on_disk : goal.take-requires-clause-on_disk
-take-requires-clause-on_disk g c =
-    all_left (IsRequestOf c.args.disk.now.map) (g.M.Placing.pending c.args.self.now.placed) c.args.self.now.arrived.items c.requires.on_disk
 
 pub key_of-requires-clause-request : goal.key_of-requires-clause-request
 key_of-requires-clause-request g c =
