@@ -69,8 +69,8 @@ module _ (sessions : List Session) {touched : List Session} {task : ℕ} (opened
   is_set : touched ≡ set sessions task (record own.0 { touched = true })
   is_set = flagged own.0 own.1
 
-  pub touched-length : length touched ≡ length sessions
-  touched-length = rw is_set (length-set sessions task (record own.0 { touched = true }))
+  pub touched_length : length touched ≡ length sessions
+  touched_length = rw is_set (length-set sessions task (record own.0 { touched = true }))
 
   pub touched-now : (session : Session) → session ≡ get_or touched task session → session.touched ≡ true
   touched-now session at =
@@ -85,7 +85,7 @@ module _ (sessions : List Session) {touched : List Session} {task : ℕ} (opened
       let told = h.each task own.0 own.1 in
       let quiet : true ≡ false → IsQuiet (view past task) = λ untouched. absurd (true≢false untouched) in
       record {
-        as_many = touched-length ∙ h.as_many;
+        as_many = touched_length ∙ h.as_many;
         each = rw is_set (each_set (λ t. Told (view past t)) sessions task (record own.0 { touched = true }) (assumption (quiet, told))
             (λ t session differ at. h.each t session at));
         blocks = h.blocks;

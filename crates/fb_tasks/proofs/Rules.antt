@@ -3,6 +3,7 @@ use Rattle.fb_tasks.proofs.Words.{◌≡◌, ℕ, ◌+◌, ◌<◌, ◌≤◌, �
 use Rattle.fb_tasks.proofs.Words.{ap, sym, ◌∙◌, arith, subst, or-false, or_comm, slice_index_or, list_any-append, Shape}
 use Rattle.fb_tasks.proofs.Words.{Action, Open, Segment, Call, Plain, MayAsk, Entry, Past, LogSegment, called, calls_of, tasks}
 use Rattle.fb_tasks.proofs.Words.{opened_by, is_closed, segments, segment_by, view, Session, Tells, MayTake, take_call, blocks_by}
+use Rattle.fb_tasks.proofs.Words.{on_err_weaker, on_ok_weaker}
 use Rattle.fb_script.specs.Allowed.{Terms}
 use Rattle.fb_script.specs.Allowed as allowed
 use Rattle.fb_model.proofs.Histories.{opened_same}
@@ -56,6 +57,9 @@ pub session_there : {disk : Shape} {past : Past} {sessions : List Session} {held
     → (MayAsk disk (calls_of past) call.task call.action → allowed.IsOpen (calls_of past) call.task) → MayTake disk past sessions held call
     → call.task < length sessions
 session_there {disk} {past} {sessions} {held} {call} opens h = omega (arith, (open_there past call.task (opens h.asks)).0, h.tells.as_many)
+
+-- what a call needs of its own session, and what comes of it
+pub ruleset of_one_session = (room_for_one, session_there, on_ok_weaker, on_err_weaker)
 
 -- a call that registers nothing
 pub takes_none : (disk : Shape) (past : Past) (call : Call) (sessions : List Session) (held : List Entry)

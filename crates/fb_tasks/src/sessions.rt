@@ -85,6 +85,7 @@ impl Sessions {
     ///
     /// If memory runs out, all sessions and blocks are as before, except that the first blocks of a want
     /// may be registered.
+    #[tactic(auto, using(crate::proofs::Rules::of_one_session))]
     pub fn apply(
         &mut self,
         map: &SectorMap,
@@ -131,6 +132,7 @@ impl Sessions {
     ///
     /// If memory runs out, all rows and blocks that stood before are unchanged, and so is each session that
     /// was not touched; at most the first of the blocks and of the rows that were due follow.
+    #[tactic(auto, using(crate::proofs::Leaving::touched_more))]
     pub fn settle(
         &mut self,
         map: &SectorMap,
@@ -194,6 +196,7 @@ impl Sessions {
     }
 
     /// Whether the task is complete.
+    #[tactic(auto, using(crate::proofs::Complete::counts_small))]
     pub fn complete(&self, wanted: &Wanted, task: u32) -> bool
         requires opened { task < length self.now }
         requires tells { (disk : Shape) × (past : Past) × Tells disk past self.now wanted.now }
@@ -204,6 +207,7 @@ impl Sessions {
 
     /// How each task stands, in order of opening. If memory runs out, at most the first of the rows were
     /// added.
+    #[tactic(auto, using(crate::proofs::Complete::counts_small))]
     pub fn task_rows(&self, wanted: &Wanted, rows: &mut BackRows) -> Result<(), NoMemory>
         requires { (disk : Shape) × (past : Past) × Tells disk past self.now wanted.now }
         ensures ok { OnOk result ((disk : Shape) (past : Past) → Tells disk past self.now wanted.now
@@ -241,6 +245,7 @@ impl Sessions {
     }
 
     // Wants the blocks of a range.
+    #[tactic(auto, using(crate::proofs::Listed::listed_near, crate::proofs::Listed::listed_anew))]
     fn want(
         &mut self,
         map: &SectorMap,
@@ -289,6 +294,7 @@ impl Sessions {
         Ok(())
     }
 
+    #[tactic(auto, using(crate::proofs::Listed::listed_kept))]
     fn suspend(&mut self, wanted: &mut Wanted, task: u32)
         requires { task < length self.old }
         ensures { (disk : Shape) (past : Past) (call : Call) → IsCall task Suspend call → Tells disk past self.old wanted.old
@@ -298,6 +304,7 @@ impl Sessions {
         wanted.suspend(task);
     }
 
+    #[tactic(auto, using(crate::proofs::Listed::listed_kept))]
     fn resume(&mut self, wanted: &mut Wanted, task: u32)
         requires { task < length self.old }
         ensures { (disk : Shape) (past : Past) (call : Call) → IsCall task Resume call → Tells disk past self.old wanted.old
@@ -308,6 +315,7 @@ impl Sessions {
     }
 
     // Aborts what is left of the task, and drops the segments that it has not chosen.
+    #[tactic(auto, using(crate::proofs::Frames::touched_length, crate::proofs::Listed::listed_kept))]
     fn close(&mut self, map: &SectorMap, wanted: &mut Wanted, task: u32) -> Result<(), NoMemory>
         requires { task < length self.old }
         ensures ok { OnOk result ((past : Past) (call : Call) → IsCall task Close call → Tells map.now past self.old wanted.old
@@ -323,6 +331,7 @@ impl Sessions {
     }
 
     // Adds a segment of `count` blocks to a task's log.
+    #[tactic(auto, using(crate::proofs::Listed::listed_more, crate::proofs::Listed::listed_noted))]
     fn add_segment(
         &mut self,
         map: &SectorMap,
@@ -350,6 +359,7 @@ impl Sessions {
     }
 
     // Something was done to a task that may change what it chooses or what its test gives.
+    #[tactic(auto, using(crate::proofs::Listed::listed_more, crate::proofs::Listed::listed_noted))]
     fn touch(&mut self, task: u32) -> Result<(), NoMemory>
         requires { task < length self.old }
         ensures ok { OnOk result ((session : Session) → slice_get self.old task ≡ Some session
@@ -362,6 +372,7 @@ impl Sessions {
     }
 
     // Wants the task's blocks again that share a sector with the range, if it is an open backup.
+    #[tactic(auto, using(crate::proofs::Written::open_left, crate::proofs::Written::other_left))]
     fn rewant(&self, wanted: &mut Wanted, task: u32, first: u64, count: u64)
         requires { task < length self.now }
         ensures { wanted.new ≡ map (left_in task self.now first count) wanted.old }
@@ -373,6 +384,7 @@ impl Sessions {
     }
 
     // Wants blocks of open backups again that share a sector with the range.
+    #[tactic(auto, using(crate::proofs::Written::all_rewanted))]
     fn rewant_near(&self, wanted: &mut Wanted, first: u64, count: u64)
         requires { AreNearby self.now wanted.old }
         ensures { wanted.new ≡ map (left_by_write self.now first count) wanted.old }

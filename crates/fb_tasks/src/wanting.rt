@@ -75,6 +75,7 @@ fn block_of(session: &Session, task: u32, number: u32, cut: Cut) -> Block
 }
 
 /// Registers the blocks of a segment's live blocks. If memory runs out, at most the first of them are registered.
+#[tactic(auto, using(crate::proofs::Leaving::grown_not, crate::proofs::Leaving::begun_by))]
 pub fn want_live(
     map: &SectorMap,
     wanted: &mut Wanted,

@@ -1,7 +1,7 @@
 use Rattle.fb_units.proofs.Lists.{drop_at}
 use Rattle.fb_tasks.proofs.Words.{◌+◌, ◌++◌, length, drop, refl, ap, ◌∙◌, length-append, arith, cutting, live_of, cuts_of, blocks_of}
 use Rattle.fb_tasks.proofs.Words.{numbered, new_entries}
-use Rattle.fb_tasks.proofs.{Leaving.grown_not, Leaving.grown_more, Leaving.begun_by, Leaving.begun_next, Cuts.live-more}
+use Rattle.fb_tasks.proofs.{Leaving.grown_more, Leaving.begun_next, Cuts.live-more}
 use Rattle.fb_wanted.specs.Numbering.{registered_count}
 use Rattle.fb_tasks.proofs.wanting.want_live.Goals as goal
 
@@ -17,9 +17,6 @@ want_range-requires-clause-few c =
       length-append cs (cuts_of c.args.map.now block (drop (c.loop-i.i + 1) lbns)),
     )
 
-pub loop-i-init : goal.loop-i-init
-loop-i-init c = record { all = refl; few = c.requires.few; grown = grown_not c.args.wanted.now }
-
 pub loop-i-preserved : goal.loop-i-preserved
 loop-i-preserved c =
     let session = c.args.session.now in
@@ -30,9 +27,6 @@ loop-i-preserved c =
       few = omega (arith, more.1, c.loop-i.invariant.few);
       grown = grown_more _ _ _ c.loop-i.invariant.grown (record { added = _; is = c.in_ok-want_range.ensures.all });
     }
-
-pub returns-clause-begun : goal.returns-clause-begun
-returns-clause-begun c = begun_by _ c.loop-i.invariant.grown c.loop-i.invariant.all
 
 pub returns-in_err-want_range-clause-begun : goal.returns-in_err-want_range-clause-begun
 returns-in_err-want_range-clause-begun c =

@@ -1,6 +1,5 @@
 use Rattle.std.proofs.lemmas.List.{set-get_or}
-use Rattle.fb_tasks.proofs.Words.{Some, length, set, refl, ap, sym, ◌∙◌, arith, slice_get-get_or, on_err}
-use Rattle.fb_tasks.proofs.Listed.{listed_more, listed_noted}
+use Rattle.fb_tasks.proofs.Words.{Some, length, set, ap, sym, ◌∙◌, arith, slice_get-get_or, on_err}
 use Rattle.fb_tasks.proofs.Additions.{may_add, added-tells}
 use Rattle.fb_tasks.proofs.sessions.Sessions.add_segment.Goals as goal
 
@@ -26,17 +25,6 @@ returns-clause-ok c = λ past call held is h. rw c.self.view_is
 
 pub index_mut-cleaner-requires : goal.index_mut-cleaner-requires
 index_mut-cleaner-requires c = omega (arith, c.requires.opened, ap length c.self.view_is, c.self.inside.sessions.ok.0)
-
-pub invariant_of-self : goal.invariant_of-self
-invariant_of-self c = listed_more c.self.invariant (rw c.self.view_is c.requires.opened) c.note.ensures.stay c.note.ensures.only
-
-pub invariant_of-self-in_err-add : goal.invariant_of-self-in_err-add
-invariant_of-self-in_err-add c = listed_noted c.self.invariant (rw c.self.view_is c.requires.opened) c.note.ensures.stay c.note.ensures.only
-    c.in_ok-note.ensures.noted c.index_mut-cleaner.result.now _ c.index_mut-cleaner.ensures.value refl
-
-pub invariant_of-self-2 : goal.invariant_of-self-2
-invariant_of-self-2 c = listed_noted c.self.invariant (rw c.self.view_is c.requires.opened) c.note.ensures.stay c.note.ensures.only
-    c.in_ok-note.ensures.noted c.index_mut-cleaner.result.now _ c.index_mut-cleaner.ensures.value refl
 
 pub returns-in_err-add-clause-err : goal.returns-in_err-add-clause-err
 returns-in_err-add-clause-err c =

@@ -1,10 +1,7 @@
-use Rattle.fb_tasks.proofs.Words.{ap, refl, on_ok_weaker, on_err_weaker, on_err, blocks_by, arith}
+use Rattle.fb_tasks.proofs.Words.{ap, refl, on_ok_weaker, on_err_weaker, on_err, blocks_by}
 use Rattle.fb_tasks.proofs.{Leaving.begun_not, Leaving.begun_same, Changes.promoted-tells}
-use Rattle.fb_tasks.proofs.Rules.{room_for_one, session_there, takes_none}
+use Rattle.fb_tasks.proofs.Rules.{takes_none}
 use Rattle.fb_tasks.proofs.sessions.Sessions.apply.Goals as goal
-
-pub open-requires : goal.open-requires
-open-requires c = room_for_one c.args.map.now c.requires.0 c.args.self.now c.args.wanted.now c.args.call.now c.requires.1
 
 pub add_segment-requires-clause-call : goal.add_segment-requires-clause-call
 add_segment-requires-clause-call c =
@@ -14,14 +11,6 @@ pub returns-in-Open-clause-ok : goal.returns-in-Open-clause-ok
 returns-in-Open-clause-ok c = on_ok_weaker c.open.result (λ says past h. takes_none c.args.map.now
     past c.args.call.now c.open.new.self c.args.wanted.now (ap (blocks_by c.args.map.now past c.args.call.now.task) c.in-Open.is)
     (says c.args.map.now past c.args.call.now c.args.wanted.now c.in-Open.is h)) c.open.ensures.ok
-
-pub returns-in-Want-clause-ok : goal.returns-in-Want-clause-ok
-returns-in-Want-clause-ok c = on_ok_weaker c.want.result
-    (λ says past h. says past c.args.call.now (record { task = refl; action = c.in-Want.is }) h) c.want.ensures.ok
-
-pub returns-in-Want-clause-err_blocks : goal.returns-in-Want-clause-err_blocks
-returns-in-Want-clause-err_blocks c = on_err_weaker c.want.result
-    (λ _ past may. c.want.ensures.blocks past c.args.call.now (record { task = refl; action = c.in-Want.is }) may) c.want.ensures.err
 
 pub returns-in-Abort : goal.returns-in-Abort
 returns-in-Abort c = record {
@@ -63,26 +52,8 @@ returns-in-Segment-clause-ok c = on_ok_weaker c.add_segment.result (λ says past
     (says past c.args.call.now c.args.wanted.now (record { task = refl; action = c.in-Segment.is }) h))
     c.add_segment.ensures.ok
 
-pub want-requires-clause-opened : goal.want-requires-clause-opened
-want-requires-clause-opened c = session_there (λ asks. (rw c.in-Want.is at asks).0) c.requires.1
-
 pub want-requires-clause-call : goal.want-requires-clause-call
 want-requires-clause-call c = (c.requires.0, c.args.call.now, record { task = refl; action = c.in-Want.is }, c.requires.1)
-
-pub abort-requires : goal.abort-requires
-abort-requires c = omega (arith, session_there (λ asks. (rw c.in-Abort.is at asks).0) c.requires.1)
-
-pub suspend-requires : goal.suspend-requires
-suspend-requires c = session_there (λ asks. rw c.in-Suspend.is at asks) c.requires.1
-
-pub resume-requires : goal.resume-requires
-resume-requires c = session_there (λ asks. rw c.in-Resume.is at asks) c.requires.1
-
-pub close-requires : goal.close-requires
-close-requires c = session_there (λ asks. rw c.in-Close.is at asks) c.requires.1
-
-pub add_segment-requires-clause-opened : goal.add_segment-requires-clause-opened
-add_segment-requires-clause-opened c = session_there (λ asks. (rw c.in-Segment.is at asks).0) c.requires.1
 
 pub returns-in-Open-clause-err_blocks : goal.returns-in-Open-clause-err_blocks
 returns-in-Open-clause-err_blocks c = on_err c.open.result (λ past may. begun_not)

@@ -1,10 +1,6 @@
-use Rattle.fb_tasks.proofs.Words.{Some, get_or, ap, sym, ◌∙◌, rules, slice_get-get_or, complete_by}
-use Rattle.fb_tasks.proofs.Complete.{complete_same, counts_small}
+use Rattle.fb_tasks.proofs.Words.{Some, get_or, ap, sym, ◌∙◌, slice_get-get_or, complete_by}
+use Rattle.fb_tasks.proofs.Complete.{complete_same}
 use Rattle.fb_tasks.proofs.sessions.Sessions.complete.Goals as goal
-
-pub is_complete-requires : goal.is_complete-requires
-is_complete-requires c =
-    counts_small c.requires.tells.1 c.args.task c.args.wanted.now c.counts.result c.counts.ensures c.requires.tells.2.entries (search rules)
 
 pub returns : goal.returns
 returns c = λ disk past h.

@@ -1,5 +1,5 @@
 use Rattle.fb_tasks.proofs.Words.{◌<◌, on_err, on_ok_weaker, on_err_weaker, length, set, sym, ◌∙◌, arith, ap, element_at}
-use Rattle.fb_tasks.proofs.{Frames.set_same, Frames.touched-length, Frames.touched-now, Frames.touched-set, Listed.listed_touched-set}
+use Rattle.fb_tasks.proofs.{Frames.set_same, Frames.touched_length, Frames.touched-now, Frames.touched-set, Listed.listed_touched-set}
 use Rattle.fb_tasks.proofs.Leaving.{begun_not, on_ok_both}
 use Rattle.fb_tasks.proofs.AfterDelivery.{within_sessions, may-touched, delivers, wanted-entry, held-now, tells-delivered}
 use Rattle.fb_tasks.proofs.AfterDelivery.{up_to_date-delivered}
@@ -17,7 +17,7 @@ index_mut-requires c =
     omega (
       arith,
       opened,
-      touched-length c.args.self.now opened c.in_ok-touch.ensures.ok,
+      touched_length c.args.self.now opened c.in_ok-touch.ensures.ok,
       ap length c.self.view_is,
       c.self.inside.sessions.ok.0,
     )
@@ -80,7 +80,7 @@ invariant_of-self c =
     let opened = within_sessions c.args.got c.requires.2 in
     let session = c.index_mut.result.now in
     let within : c.args.got.block.task < length c.self.inside.sessions.items =
-    omega (arith, opened, touched-length c.args.self.now opened c.in_ok-touch.ensures.ok, ap length c.self.view_is) in
+    omega (arith, opened, touched_length c.args.self.now opened c.in_ok-touch.ensures.ok, ap length c.self.view_is) in
     listed_touched-set c.self.invariant c.args.got.block.task session c.take_delivery.new.self within c.index_mut.ensures.value
     (touched-now c.args.self.now opened c.in_ok-touch.ensures.ok session (rw c.self.view_is at c.index_mut.ensures.value))
     c.take_delivery.ensures.chunks

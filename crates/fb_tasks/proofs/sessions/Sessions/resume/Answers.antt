@@ -1,5 +1,5 @@
-use Rattle.fb_tasks.proofs.Words.{length, ap, arith, refl}
-use Rattle.fb_tasks.proofs.{Changes.resumed-tells, Listed.listed_kept}
+use Rattle.fb_tasks.proofs.Words.{length, ap, arith}
+use Rattle.fb_tasks.proofs.{Changes.resumed-tells}
 use Rattle.fb_tasks.proofs.sessions.Sessions.resume.Goals as goal
 
 pub returns : goal.returns
@@ -9,7 +9,3 @@ returns c = λ disk past call is h.
 
 pub index_mut-requires : goal.index_mut-requires
 index_mut-requires c = omega (arith, c.requires, ap length c.self.view_is, c.self.inside.sessions.ok.0)
-
-pub invariant_of-self : goal.invariant_of-self
-invariant_of-self c = listed_kept c.self.invariant c.args.task c.index_mut.result.now _ (rw c.self.view_is c.requires)
-    c.index_mut.ensures.value refl refl

@@ -1,5 +1,5 @@
 use Rattle.fb_tasks.proofs.Words.{◌+◌, length, ap, refl, all_any, arith}
-use Rattle.fb_tasks.proofs.Written.{one_rewanted, passed, all_rewanted}
+use Rattle.fb_tasks.proofs.Written.{one_rewanted, passed}
 use Rattle.fb_tasks.proofs.sessions.Sessions.rewant_near.Goals as goal
 
 pub loop-task-init : goal.loop-task-init
@@ -25,8 +25,3 @@ loop-task-preserved c = record {
       (one_rewanted c.args.first c.args.count c.args.self.now c.loop-task.task c.args.wanted.now c.loop-task.wanted
       c.rewant.new.wanted c.rewant.ensures c.loop-task.invariant.rewanted);
 }
-
-pub returns : goal.returns
-returns c = all_rewanted c.args.first c.args.count c.args.self.now c.loop-task.task c.args.wanted.now c.loop-task.wanted
-    (omega (arith, c.loop-task-test.false, c.len-opened.ensures, c.self.inside.sessions.ok.0, ap length c.self.view_is))
-    c.loop-task.invariant.rewanted

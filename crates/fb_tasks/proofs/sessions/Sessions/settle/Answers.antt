@@ -1,8 +1,7 @@
 use Rattle.fb_tasks.proofs.Words.{◌++◌, [], ap, ◌∙◌, append_assoc, on_ok_weaker, flat_map, task_numbers, test_rows_found}
-use Rattle.fb_tasks.proofs.Words.{segment_rows_found, ends_of}
-use Rattle.fb_tasks.proofs.Words.{with_choices, on_err, on_err_weaker}
+use Rattle.fb_tasks.proofs.Words.{segment_rows_found, ends_of, with_choices, on_err, on_err_weaker}
 use Rattle.fb_tasks.proofs.{RowsOf.rows-given, RowsOf.nothing-mute, Tested.up_to_date-tested}
-use Rattle.fb_tasks.proofs.Leaving.{begun_after, begun_longer, touched_more}
+use Rattle.fb_tasks.proofs.Leaving.{begun_after, begun_longer}
 use Rattle.fb_tasks.proofs.sessions.Sessions.settle.Goals as goal
 
 pub test_touched-requires : goal.test_touched-requires
@@ -30,10 +29,6 @@ returns-clause-rows c = on_ok_weaker c.test_touched.result (λ tested past may.
     ∙ (ap (λ rows. rows ++ flat_map (ends_of new c.args.now) (task_numbers new)) chosen.1
     ∙ append_assoc c.args.rows.now (flat_map (segment_rows_found new c.args.now) (task_numbers new))
     (flat_map (ends_of new c.args.now) (task_numbers new)))) c.test_touched.ensures.tested
-
-pub returns-clause-stay_sessions : goal.returns-clause-stay_sessions
-returns-clause-stay_sessions c = touched_more c.args.self.now c.choose_touched.new.self c.test_touched.new.self
-    c.choose_touched.ensures.stay_sessions c.test_touched.ensures.stay_sessions
 
 pub returns-clause-err_rows : goal.returns-clause-err_rows
 unfolding test_rows_found

@@ -1,11 +1,7 @@
-use Rattle.fb_tasks.proofs.Words.{◌≡◌, ◌<◌, ◌≤◌, ◌++◌, Some, length, map, slice_get, ap, sym, ◌∙◌, arith, rules, range_with_len}
+use Rattle.fb_tasks.proofs.Words.{◌≡◌, ◌<◌, ◌≤◌, ◌++◌, Some, length, map, slice_get, ap, sym, ◌∙◌, arith, range_with_len}
 use Rattle.fb_tasks.proofs.Words.{slice_get-get_or, task_row, task_rows, tasks, on_err}
-use Rattle.fb_tasks.proofs.{Leaving.begun_counted, Complete.counts_small, Complete.map_more, Complete.row_same}
+use Rattle.fb_tasks.proofs.{Leaving.begun_counted, Complete.map_more, Complete.row_same}
 use Rattle.fb_tasks.proofs.sessions.Sessions.task_rows.Goals as goal
-
-pub is_complete-requires : goal.is_complete-requires
-is_complete-requires c = counts_small c.requires.1 c.loop-task.task c.args.wanted.now c.counts-counts.result c.counts-counts.ensures
-    c.requires.2.entries (search rules)
 
 pub loop-task-preserved : goal.loop-task-preserved
 loop-task-preserved c = λ disk past h.

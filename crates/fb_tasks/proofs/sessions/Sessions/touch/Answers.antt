@@ -1,6 +1,4 @@
-use Rattle.fb_tasks.proofs.Words.{◌<◌, Some, length, ap, sym, ◌∙◌, subst, true, set, slice_get, slice_get-get_or, Session, same_Some}
-use Rattle.fb_tasks.proofs.Words.{arith, refl}
-use Rattle.fb_tasks.proofs.Listed.{listed_more, listed_noted}
+use Rattle.fb_tasks.proofs.Words.{◌<◌, Some, length, ap, sym, ◌∙◌, subst, true, set, slice_get, slice_get-get_or, Session, same_Some, arith}
 use Rattle.fb_tasks.proofs.sessions.Sessions.touch.Goals as goal
 
 pub returns-clause-ok : goal.returns-clause-ok
@@ -15,10 +13,3 @@ returns-clause-ok c = λ session at.
 
 pub index_mut-requires : goal.index_mut-requires
 index_mut-requires c = omega (arith, c.requires, ap length c.self.view_is, c.self.inside.sessions.ok.0)
-
-pub invariant_of-self : goal.invariant_of-self
-invariant_of-self c = listed_more c.self.invariant (rw c.self.view_is c.requires) c.note.ensures.stay c.note.ensures.only
-
-pub invariant_of-self-2 : goal.invariant_of-self-2
-invariant_of-self-2 c = listed_noted c.self.invariant (rw c.self.view_is c.requires) c.note.ensures.stay c.note.ensures.only
-    c.in_ok-note.ensures.noted c.index_mut.result.now _ c.index_mut.ensures.value refl

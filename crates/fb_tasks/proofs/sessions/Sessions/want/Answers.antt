@@ -1,5 +1,4 @@
 use Rattle.fb_tasks.proofs.Words.{◌≡◌, ◌<◌, true, Some, length, set, ap, sym, subst, ◌∙◌, arith, slice_get-get_or, same_Some, take_call, Tells, Session}
-use Rattle.fb_tasks.proofs.Listed.{listed_near, listed_anew}
 use Rattle.fb_tasks.proofs.Additions.{may_want, wanted-tells, wanted_begun}
 use Rattle.fb_tasks.proofs.sessions.Sessions.want.Goals as goal
 
@@ -14,13 +13,6 @@ want_range-requires c =
     let may = may_want c.args.map.now r.0 r.1 c.args.task c.args.first c.args.count c.args.self.now c.index-session.result.now
     c.args.wanted.now r.2 there r.3 in
     record { block = may.stands.block; weight = may.stands.weight; on_disk = may.on_disk; few = may.few }
-
-pub invariant_of-self : goal.invariant_of-self
-invariant_of-self c = listed_near c.self.invariant c.note_near.new.near c.note_near.ensures.stay
-
-pub invariant_of-self-2 : goal.invariant_of-self-2
-invariant_of-self-2 c = listed_anew (listed_near c.self.invariant c.note_near.new.near c.note_near.ensures.stay)
-    (rw c.self.view_is c.requires.opened) c.note.ensures.stay c.note.ensures.only c.in_ok-note.ensures.noted _ c.in_ok-note_near.ensures.noted
 
 pub returns-clause-ok : goal.returns-clause-ok
 returns-clause-ok c = λ past call is h.
