@@ -10,29 +10,29 @@ module _ (layout : Layout) (table : Members) (ranges : keeps InRange layout tabl
   front-within : (i : ℕ) (key : Key) → slice_get front_keys i ≡ Some key → breaks InRange key (get_member key.name table) ≡ false
   front-within i key at = kept_at InRange front_keys table (in_range layout table ranges).front i key at
 
-  pub heads-within : number_at (codes "heads") table ≤ 64
-  heads-within = number-within (must (codes "heads") Number (from_to 1 64)) (get_member (codes "heads") table) (front-within 3 _ refl)
+  pub heads_within : number_at (codes "heads") table ≤ 64
+  heads_within = number-within (must (codes "heads") Number (from_to 1 64)) (get_member (codes "heads") table) (front-within 3 _ refl)
 
-  pub seek-within : list_all (is_row_within (from_to 0 (10 ^ 9))) (elements_at (codes "seek") table) ≡ true
-  seek-within = rows-within (must (codes "seek") (Rows 2) (from_to 0 (10 ^ 9))) (get_member (codes "seek") table) (front-within 6 _ refl)
+  pub seek_within : list_all (is_row_within (from_to 0 (10 ^ 9))) (elements_at (codes "seek") table) ≡ true
+  seek_within = rows-within (must (codes "seek") (Rows 2) (from_to 0 (10 ^ 9))) (get_member (codes "seek") table) (front-within 6 _ refl)
 
-pub defects-within : (layout : Layout) (table : Members) → keeps InRange layout table ≡ Ok tt
+pub defects_within : (layout : Layout) (table : Members) → keeps InRange layout table ≡ Ok tt
     → list_all (is_row_within (from_to 0 999999)) (elements_at (codes "defects") table) ≡ true
-defects-within PerTrack table ranges = rows-within defects_key (get_member (codes "defects") table) (kept_at InRange
+defects_within PerTrack table ranges = rows-within defects_key (get_member (codes "defects") table) (kept_at InRange
     (back_keys PerTrack) table (in_range PerTrack table ranges).back 0 defects_key refl)
-defects-within PerCylinder table ranges = rows-within defects_key (get_member (codes "defects") table) (kept_at InRange
+defects_within PerCylinder table ranges = rows-within defects_key (get_member (codes "defects") table) (kept_at InRange
     (back_keys PerCylinder) table (in_range PerCylinder table ranges).back 0 defects_key refl)
 
-pub grown-within : (layout : Layout) (table : Members) → layout ≡ PerCylinder → keeps InRange layout table ≡ Ok tt
+pub grown_within : (layout : Layout) (table : Members) → layout ≡ PerCylinder → keeps InRange layout table ≡ Ok tt
     → list_all (is_row_within (from_to 0 999999)) (elements_at (codes "grown") table) ≡ true
-grown-within PerTrack table is ranges = absurd (cc)
-grown-within PerCylinder table is ranges = rows-within grown_key (get_member (codes "grown") table) (kept_at InRange
+grown_within PerTrack table is ranges = absurd (cc)
+grown_within PerCylinder table is ranges = rows-within grown_key (get_member (codes "grown") table) (kept_at InRange
     (back_keys PerCylinder) table (in_range PerCylinder table ranges).back 1 grown_key refl)
 
-pub sector_bytes-number : (layout : Layout) (table : Members) → keeps Present layout table ≡ Ok tt → keeps OfKind layout table ≡ Ok tt
+pub sector_bytes_number : (layout : Layout) (table : Members) → keeps Present layout table ≡ Ok tt → keeps OfKind layout table ≡ Ok tt
     → keeps InRange layout table ≡ Ok tt
     → IsNumberOf (record { low = 16; high = 4096; multiple = 16 }) (number_at (codes "sector_bytes") table)
-sector_bytes-number layout table there kinds ranges =
+sector_bytes_number layout table there kinds ranges =
     number-required (codes "sector_bytes") (record { low = 16; high = 4096; multiple = 16 }) (get_member (codes "sector_bytes") table)
     (kept_at Present (front_keys ++ back_keys layout) table (present layout table there) 2 _ refl)
     (kept_at OfKind front_keys table (of_kind layout table kinds).front 2 _ refl)
@@ -50,8 +50,8 @@ module _ (layout : Layout) (zone : Members) (none : first_in InRange (zone_keys 
   zone-at : (i : ℕ) (key : Key) → slice_get (zone_keys layout) i ≡ Some key → number_at key.name zone ≤ key.range.high
   zone-at i key is = number-within key (get_member key.name zone) (kept_at InRange (zone_keys layout) zone none i key is)
 
-  pub zone-within : AreZoneNumbers zone
-  zone-within = record {
+  pub zone_within : AreZoneNumbers zone
+  zone_within = record {
     first = zone-at 0 _ refl;
     last = zone-at 1 _ refl;
     sectors = zone-at 2 _ refl;
@@ -62,12 +62,15 @@ module _ (layout : Layout) (zone : Members) (none : first_in InRange (zone_keys 
   spares-at : number_at (spares_key layout).name zone ≤ (spares_key layout).range.high
   spares-at = zone-at 5 _ refl
 
-pub spares-within : (layout : Layout) (zone : Members) → first_in InRange (zone_keys layout) zone ≡ None → layout ≡ PerTrack
+pub spares_within : (layout : Layout) (zone : Members) → first_in InRange (zone_keys layout) zone ≡ None → layout ≡ PerTrack
     → number_at (codes "spares") zone ≤ 10000
-spares-within PerTrack zone none is = spares-at PerTrack zone none
-spares-within PerCylinder zone none is = absurd (cc)
+spares_within PerTrack zone none is = spares-at PerTrack zone none
+spares_within PerCylinder zone none is = absurd (cc)
 
 pub cylinder_spares-within : (layout : Layout) (zone : Members) → first_in InRange (zone_keys layout) zone ≡ None → layout ≡ PerCylinder
     → number_at (codes "cylinder_spares") zone ≤ 640000
 cylinder_spares-within PerTrack zone none is = absurd (cc)
 cylinder_spares-within PerCylinder zone none is = spares-at PerCylinder zone none
+
+-- what the numbers beside the outline are
+pub ruleset mechanics_within = (seek_within, sector_bytes_number)

@@ -36,8 +36,8 @@ index-within range (value ∷ values) within zero = number_of-within range value
 index-within range (value ∷ values) within (suc i) = index-within range values ((and_parts _ _ within).1) i
 
 -- a number of a row within a range isn't above it
-pub nth-within : (range : Range) (row : Data) → is_row_within range row ≡ true → (i : ℕ) → nth i row ≤ range.high
-nth-within range row within i = index-within range (elements row) ((and_parts _ _ within).1) i
+pub nth_within : (range : Range) (row : Data) → is_row_within range row ≡ true → (i : ℕ) → nth i row ≤ range.high
+nth_within range row within i = index-within range (elements row) ((and_parts _ _ within).1) i
 
 -- a required number is in its range
 pub record IsNumberOf (range : Range) (n : ℕ) : Type 0 where

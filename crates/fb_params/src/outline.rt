@@ -17,6 +17,7 @@ use std::alloc::Global;
 use toml::{Table, Value};
 
 // The geometry of the file's outline, or its first fault, or `NoMemory`.
+#[tactic(auto, using(crate::proofs::Fields::heads_within, crate::proofs::Fields::defects_within, crate::proofs::Fitting::fits_layout))]
 pub fn geometry_of(alloc: Global, layout: Layout, table: &Table) -> Result<Geometry, ParamsError>
     requires { keeps Rule.InRange layout (table_view table.now) ≡ Ok tt }
     ensures { Answers (λ geometry. geometry) result (possible_outline (outline_of layout (table_view table.now))) }
@@ -56,6 +57,7 @@ fn push_zone(zones: &mut Vec<Zone>, layout: Layout, value: &Value) -> Result<(),
     Ok(())
 }
 
+#[tactic(auto, using(crate::proofs::Fields::zone_within, crate::proofs::Fields::spares_within))]
 fn zone(layout: Layout, table: &Table) -> Zone
     requires { first_in Rule.InRange (zone_keys layout) (table_view table.now) ≡ None }
     ensures { result ≡ zone_of layout (table_view table.now) }
@@ -76,6 +78,7 @@ fn zone(layout: Layout, table: &Table) -> Zone
 }
 
 // The grown defects of a file; none in a file with spares per track.
+#[tactic(auto, using(crate::proofs::Fields::grown_within))]
 fn grown(alloc: Global, layout: Layout, table: &Table) -> Result<Vec<Place>, NoMemory>
     requires { keeps Rule.InRange layout (table_view table.now) ≡ Ok tt }
     ensures { IfOk result (λ grown. grown.items ≡ grown_of layout (table_view table.now)) }
@@ -87,6 +90,7 @@ fn grown(alloc: Global, layout: Layout, table: &Table) -> Result<Vec<Place>, NoM
 }
 
 // The places that these rows of cylinder, head and slot describe.
+#[tactic(auto, using(crate::proofs::Views::each_row))]
 fn places(alloc: Global, rows: &[Value]) -> Result<Vec<Place>, NoMemory>
     requires { list_all (is_row_within (from_to 0 999999)) (map view rows.now) ≡ true }
     ensures { IfOk result (λ places. places.items ≡ map place_of (map view rows.now)) }
@@ -98,6 +102,7 @@ fn places(alloc: Global, rows: &[Value]) -> Result<Vec<Place>, NoMemory>
     Ok(places)
 }
 
+#[tactic(auto, using(crate::proofs::Numbers::nth_within))]
 fn place(row: &Value) -> Place
     requires { is_row_within (from_to 0 999999) (view row.now) ≡ true }
     ensures { result ≡ place_of (view row.now) }

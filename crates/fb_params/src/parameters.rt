@@ -29,7 +29,7 @@ pub struct Parameters {
 
 // The parameters that a table describes, or the first fault of the disk that it
 // describes, or `NoMemory`.
-#[tactic(auto, unfolding(crate::specs::Reading::params_of_table))]
+#[tactic(auto, using(crate::proofs::Fields::mechanics_within), unfolding(crate::specs::Reading::params_of_table))]
 pub fn params_of_table(
     alloc: Global,
     layout: Layout,

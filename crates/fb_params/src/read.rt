@@ -48,6 +48,7 @@ fn params_of_document(alloc: Global, table: &Table) -> Result<Parameters, Params
 }
 
 // The TOML document of these bytes.
+#[tactic(auto, using(crate::proofs::Documents::document_of_read, crate::proofs::Documents::document_of_refused))]
 fn read_table(alloc: Global, bytes: &[u8]) -> Result<Table, ParamsError>
     ensures { Answers table_view result (or_fault ParamsFault.NotToml (document_of bytes.now)) }
 {

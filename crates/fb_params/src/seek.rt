@@ -32,6 +32,7 @@ pub fn mechanism_of(alloc: Global, cylinders: u32, table: &Table) -> Result<Mech
 }
 
 // The points that these rows of distance and time describe.
+#[tactic(auto, using(crate::proofs::Views::each_row))]
 fn points(alloc: Global, rows: &[Value]) -> Result<Vec<SeekPoint>, NoMemory>
     requires { list_all (is_row_within (from_to 0 (10 ^ 9))) (map view rows.now) ≡ true }
     ensures { IfOk result (λ points. points.items ≡ map point_of (map view rows.now)) }
@@ -43,6 +44,7 @@ fn points(alloc: Global, rows: &[Value]) -> Result<Vec<SeekPoint>, NoMemory>
     Ok(points)
 }
 
+#[tactic(auto, using(crate::proofs::Numbers::nth_within))]
 fn point(row: &Value) -> SeekPoint
     requires { is_row_within (from_to 0 (10 ^ 9)) (view row.now) ≡ true }
     ensures { result ≡ point_of (view row.now) }

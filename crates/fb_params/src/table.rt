@@ -9,6 +9,7 @@ use fb_geometry::Layout;
 use toml::{Table, Value};
 
 // The value of a key. None if the table doesn't have the key.
+#[tactic(auto, using(toml::proofs::Views::table_get))]
 pub fn member<'a>(table: &'a Table, name: &str) -> Option<&'a Value>
     ensures { option_map (λ v. view v.now) result ≡ get_member name.now (table_view table.now) }
 {
@@ -16,6 +17,7 @@ pub fn member<'a>(table: &'a Table, name: &str) -> Option<&'a Value>
 }
 
 // The elements of an array; no elements for any other value.
+#[tactic(auto, using(crate::proofs::Views::listed_items_of, crate::proofs::Views::elements_array))]
 pub fn elements(value: &Value) -> &[Value]
     ensures { map view result.now ≡ elements (view value.now) }
 {
@@ -64,6 +66,7 @@ pub fn small_number_at(table: &Table, name: &str) -> u32
 }
 
 // The i-th number of a row, from 0, or 0 if there is none, for a number of 32 bits.
+#[tactic(auto, using(crate::proofs::Views::nth_at))]
 pub fn nth(row: &Value, i: usize) -> u32
     requires { nth i (view row.now) < 2 ^ 32 }
     ensures { result ≡ nth i (view row.now) }

@@ -1,32 +1,8 @@
-use Rattle.fb_params.proofs.Words.{◌%◌, ap, sym, arith, ◌∙◌, Ok, table_view, cylinders_of}
-use Rattle.fb_params.proofs.Fields.{seek-within, sector_bytes-number}
+use Rattle.fb_params.proofs.Words.{ap, sym, arith, ◌∙◌, Ok, table_view, cylinders_of}
 use Rattle.fb_params.proofs.Described.{described}
 use Rattle.fb_params.specs.ParamsValue.{mechanics_of}
 use Rattle.fb_params.specs.Reading.{possible_arm}
 use Rattle.fb_params.proofs.parameters.params_of_table.Goals as goal
-
-pub mechanism_of-requires : goal.mechanism_of-requires
-mechanism_of-requires c = seek-within c.args.layout (table_view c.args.table.now) c.requires.range
-
-pub small_number_at-sector_bytes-requires : goal.small_number_at-sector_bytes-requires
-small_number_at-sector_bytes-requires c =
-    let number = sector_bytes-number c.args.layout (table_view c.args.table.now) c.requires.present c.requires.kind c.requires.range in
-    omega (arith, number.few)
-
-pub new-disk-requires-clause-whole_sectors : goal.new-disk-requires-clause-whole_sectors
-new-disk-requires-clause-whole_sectors c =
-    let number = sector_bytes-number c.args.layout (table_view c.args.table.now) c.requires.present c.requires.kind c.requires.range in
-    ap (λ n. n % 16) c.small_number_at-sector_bytes.ensures ∙ number.whole
-
-pub new-disk-requires-clause-some_bytes : goal.new-disk-requires-clause-some_bytes
-new-disk-requires-clause-some_bytes c =
-    let number = sector_bytes-number c.args.layout (table_view c.args.table.now) c.requires.present c.requires.kind c.requires.range in
-    omega (arith, number.some, c.small_number_at-sector_bytes.ensures)
-
-pub new-disk-requires-clause-few_bytes : goal.new-disk-requires-clause-few_bytes
-new-disk-requires-clause-few_bytes c =
-    let number = sector_bytes-number c.args.layout (table_view c.args.table.now) c.requires.present c.requires.kind c.requires.range in
-    omega (arith, number.few, c.small_number_at-sector_bytes.ensures)
 
 pub new-disk-requires-clause-same_cylinders : goal.new-disk-requires-clause-same_cylinders
 new-disk-requires-clause-same_cylinders c =
