@@ -100,7 +100,7 @@ up_to next account after = record {
 pub ends_first : {which : Input} {old new : DeskView} → ChangesInput which old new → EndsAt which old new
 ends_first {which} only = record {
   later = λ other later. only.inputs other (later_apart which other later);
-  reports = λ output no_note. only.outputs output;
+  outputs = only.outputs;
 }
 
 -- inputs were read, and then a later one
@@ -108,13 +108,13 @@ pub ends_then : {one next : Input} {old mid new : DeskView} → EndsAt one old m
     → EndsAt next old new
 ends_then {one} {next} ends after only = record {
   later = λ other later. only.inputs other (later_apart next other later) ∙ ends.later other (omega (arith, after, later));
-  reports = λ output no_note. only.outputs output ∙ ends.reports output no_note;
+  outputs = λ output. only.outputs output ∙ ends.outputs output;
 }
 
 -- nothing later was touched
 pub ends_at : {asked : Asked} {last : Input} {failed : Option Stream} {old new : DeskView} → Account asked last failed old new
     → EndsAt last old new
-ends_at account = record { later = account.later; reports = λ output no_note. account.outputs output }
+ends_at account = record { later = account.later; outputs = account.outputs }
 
 -- what was read stays so where no input is touched
 pub still_read : (names : Input → Option (List ℕ)) (old mid new : DeskView) → AreReadAs names old mid → KeepsInputs mid new

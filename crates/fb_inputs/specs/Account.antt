@@ -3,9 +3,8 @@ use Rattle.std.specs.Prelude.{◌≡◌, ◌⊎◌, ℕ, ◌<◌, List, Option, 
 use Rattle.fb_desk.specs.View.{DeskView, InputView}
 use Rattle.fb_desk.specs.declared.desk.Input.{Input}
 use Rattle.fb_desk.specs.declared.desk.Input.TheVariants.{Params, Trace, Calls, Puts, ForeReport, BackReport}
-use Rattle.fb_desk.specs.declared.desk.Output.{Output}
 use Rattle.fb_streams.specs.Called.{Asked, EndsBy, Stream}
-use Rattle.fb_streams.specs.Streams.{IsOpenedAs}
+use Rattle.fb_streams.specs.Streams.{IsOpenedAs, KeepsOutputs}
 use Rattle.fb_inputs.specs.Ends.{failed_input}
 use Rattle.fb_inputs.specs.declared.error.InputsError.{InputsError}
 
@@ -25,10 +24,6 @@ KeepsLater input old new = (other : Input) → rank input < rank other → new.i
 -- no input has changed
 abbrev pub KeepsInputs : DeskView → DeskView → Type 0
 KeepsInputs old new = (input : Input) → new.inputs input ≡ old.inputs input
-
--- no output has changed
-abbrev pub KeepsOutputs : DeskView → DeskView → Type 0
-KeepsOutputs old new = (output : Output) → new.outputs output ≡ old.outputs output
 
 -- the input is as it was; or the words give it a name, and what is left of it, if it is open, is an end of what is held under that name
 abbrev pub IsReadAs : Option (List ℕ) → DeskView → InputView → InputView → Type 0

@@ -19,7 +19,7 @@ use Rattle.fb_inputs.specs.Read.{Files, Accepts, ReadsDisk, ReadsTrace, ReadsRep
 use Rattle.fb_inputs.specs.Read.{RefusesReport}
 use Rattle.fb_inputs.specs.Account.{KeepsLater}
 use Rattle.fb_inputs.specs.Limits.{limit_of}
-use Rattle.fb_streams.specs.Streams.{IsLonger, KeepsReports}
+use Rattle.fb_streams.specs.Streams.{IsLonger, KeepsOutputs}
 
 -- a count of faults rose
 abbrev pub FaultsRose : DeskView → DeskView → Input → Type 0
@@ -59,10 +59,10 @@ AcceptsBefore desk names Puts = AcceptsFiles desk names.files
 AcceptsBefore desk names ForeReport = AcceptsFiles desk names.files
 AcceptsBefore desk names BackReport = AcceptsFore desk names
 
--- no input that is read after this one was touched, and no output but the note
+-- no input that is read after this one was touched, and no output
 pub record EndsAt (input : Input) (old new : DeskView) : Type 0 where
   pub later : KeepsLater input old new
-  pub reports : KeepsReports old new
+  pub outputs : KeepsOutputs old new
 
 -- an accepted disk, and a trace that is refused for it
 pub record RefusesTraceInTurn (desk : DeskView) (names : FileNames) (fault : TraceFault) : Type 0 where

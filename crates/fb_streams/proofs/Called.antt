@@ -1,13 +1,10 @@
 -- The calls of a command, one part after another.
-use Rattle.std.proofs.Common.{◌≡◌, ◌∙◌, List, [], ◌∷◌, ◌++◌, true, false, Option, Some, None, refl, sym, ap, subst, append_assoc, inl, inr}
-use Rattle.std.specs.Prelude.{Result, Ok, Err, codes, is_ok}
+use Rattle.std.proofs.Common.{◌≡◌, ◌∙◌, List, [], ◌∷◌, ◌++◌, Option, Some, None, refl, sym, ap, subst, append_assoc}
+use Rattle.std.specs.Prelude.{Result, Ok, Err}
 use Rattle.std.specs.List.{AllByRecursion}
-use Rattle.fb_desk.specs.View.{Call, begins}
+use Rattle.fb_desk.specs.View.{Call}
 use Rattle.fb_desk.specs.Calls.{MakesCall}
-use Rattle.fb_desk.specs.declared.desk.Failed.{Failed}
-use Rattle.fb_desk.specs.declared.desk.Output.TheVariants.{Note}
-use Rattle.fb_streams.specs.Called.{AreServed, Asked, EndsBy, Ends, HasFailed, IsServed, MakesNote, StopsAt, Stream, Told, asks_note}
-use Rattle.fb_streams.specs.Called.{failed_writing, of_output}
+use Rattle.fb_streams.specs.Called.{AreServed, Asked, EndsBy, Ends, HasFailed, IsServed, StopsAt, Stream, Told}
 
 all_both : (P : Call → Type 0) (one other : List Call) → AllByRecursion P one → AllByRecursion P other → AllByRecursion P (one ++ other)
 all_both P [] other a b = b
@@ -87,18 +84,3 @@ pub then_result : {T E : Type 0} {asked : Asked} (failed : E → Option Stream) 
     → AreServed asked a b → Ends failed asked result b c → Ends failed asked result a c
 then_result failed (Ok x) c first second = then_calls first second
 then_result failed (Err error) c first second = then_ends (failed error) c first second
-
--- the note was begun, or not
-pub note_begun : {T : Type 0} (result : Result T Failed) (old new : Told) → MakesCall (begins Note (codes "-") (is_ok result)) old new
-    → MakesNote old new
-note_begun (Ok x) old new makes =
-    inl (one_call asks_note (begins Note (codes "-") true) old new makes (record { asked_for = refl; succeeded = refl }))
-note_begun (Err failed) old new makes =
-    inr (one_failed asks_note (of_output Note) (begins Note (codes "-") false) old new makes
-    (record { asked_for = refl; of = refl; failed = refl }))
-
--- the note was begun, and written or cut off
-pub note_made : {T : Type 0} (result : Result T Failed) {a b : Told} (c : Told) → AreServed asks_note a b
-    → Ends (failed_writing Note) asks_note result b c → MakesNote a c
-note_made (Ok x) c first second = inl (then_calls first second)
-note_made (Err failed) c first second = inr (then_stops first second)

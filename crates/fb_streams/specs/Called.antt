@@ -1,5 +1,5 @@
 -- What calls a command makes of its desk.
-use Rattle.std.specs.Prelude.{◌≡◌, ◌⊎◌, ℕ, List, ◌∷◌, ◌++◌, Bool, true, false, Option, Some, None, IfSome, is_some, codes, Result, Ok, Err}
+use Rattle.std.specs.Prelude.{◌≡◌, ℕ, List, ◌∷◌, ◌++◌, Bool, true, false, Option, Some, None, IfSome, is_some, codes, Result, Ok, Err}
 use Rattle.std.specs.List.{AllByRecursion}
 use Rattle.std.specs.Option.{option_map}
 use Rattle.fb_desk.specs.View.{Call, opens, reads, begins, writes}
@@ -98,18 +98,6 @@ failed_writing output failed = Some (of_output output)
 -- nothing
 abbrev pub asks_nothing : Asked
 asks_nothing = record { inputs = λ input. None; outputs = λ output. None }
-
--- the note alone, under the name `-`
-abbrev pub note_name : Output → Option (List ℕ)
-note_name outputs.Note = Some (codes "-")
-note_name _ = None
-
-abbrev pub asks_note : Asked
-asks_note = record { inputs = λ input. None; outputs = note_name }
-
--- the note is written, or left where one of its calls fails
-abbrev pub MakesNote : Told → Told → Type 0
-MakesNote old new = AreServed asks_note old new ⊎ StopsAt asks_note (of_output outputs.Note) old new
 
 -- the names that a replay gives to outputs
 abbrev pub replay_outputs : ReplayTerms → Output → Option (List ℕ)

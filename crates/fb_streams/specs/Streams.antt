@@ -1,8 +1,7 @@
 -- What is held, read and appended under names.
-use Rattle.std.specs.Prelude.{◌≡◌, ◌≢◌, ℕ, ◌≤◌, ◌++◌, ◌<◌, true, List, take, length, Option, IfSome}
+use Rattle.std.specs.Prelude.{◌≡◌, ℕ, ◌≤◌, ◌++◌, ◌<◌, true, List, take, length, Option, IfSome}
 use Rattle.fb_desk.specs.Calls.{behind}
 use Rattle.fb_desk.specs.declared.desk.Output.{Output}
-use Rattle.fb_desk.specs.declared.desk.Output.TheVariants.{Note}
 use Rattle.fb_desk.specs.View.{DeskView, InputView}
 
 -- these are the bytes held under a name, where the desk tells them
@@ -36,6 +35,6 @@ IsLeftOf held left = IfSome left (λ rest. IfSome held (λ bytes. (taken : List 
 abbrev pub IsOpenedAs : List ℕ → DeskView → InputView → Type 0
 IsOpenedAs name desk input = input.opened ≡ true → IsLeftOf (desk.held name) input.left
 
--- no output but the note has changed
-abbrev pub KeepsReports : DeskView → DeskView → Type 0
-KeepsReports old new = (output : Output) → output ≢ Note → new.outputs output ≡ old.outputs output
+-- no output has changed
+abbrev pub KeepsOutputs : DeskView → DeskView → Type 0
+KeepsOutputs old new = (output : Output) → new.outputs output ≡ old.outputs output

@@ -5,18 +5,17 @@ use Rattle.fb_units.proofs.Lists.{all_append, all_left, all_right, all_weaker}
 use Rattle.fb_desk.specs.Calls.{ChangesOutput, Rose}
 use Rattle.fb_desk.specs.View.{DeskView, OutputView}
 use Rattle.fb_desk.specs.declared.desk.Output.{Output}
-use Rattle.fb_desk.specs.declared.desk.Output.TheVariants.{Note}
 use Rattle.fb_texts.specs.declared.error.TextsError.{TextsError}
 use Rattle.fb_texts.specs.declared.error.TextsError.TheVariants as faults
 use Rattle.fb_texts.specs.Written.{CutsAt, HoldsFront, HoldsTexts, HoldsWhole, KeepsButTexts, OutputFaultsRose, StopsTexts, Text}
 use Rattle.fb_texts.specs.Written.{WritesAll}
 use Rattle.fb_texts.specs.Written.{WritesTexts, given_text, one_text}
-use Rattle.fb_streams.specs.Streams.{KeepsReports}
+use Rattle.fb_streams.specs.Streams.{KeepsOutputs}
 
 -- one text alone
 module _ (which : Output) (name text : List ℕ) (old new : DeskView) (only : ChangesOutput which old new) where
   others_of_one : KeepsButTexts (one_text which name text) old new
-  others_of_one = λ output not_it no_note. only.outputs output not_it.0
+  others_of_one = λ output not_it. only.outputs output not_it.0
 
   pub wrote_one : HoldsWhole (new.outputs which) name text → WritesAll (one_text which name text) old new
   wrote_one whole = record { others = others_of_one; whole = (whole, tt) }
@@ -63,25 +62,25 @@ pub stopped_sooner : (one other : List Text) (old new : DeskView) (error : Texts
 stopped_sooner one other old new (faults.WriteFault output) h = (h.0, cut_sooner one other old new output h.1)
 stopped_sooner one other old new faults.NoMemory h = (h.0, cut_sooner one other old new h.0 h.1)
 
--- a text has an output of its own, and none of the note's
+-- a text has an output of its own
 abbrev pub IsApart : List Text → Text → Type 0
-IsApart others text = (text.output ≢ Note) × AllByRecursion (λ other. text.output ≢ other.output) others
+IsApart others text = AllByRecursion (λ other. text.output ≢ other.output) others
 
 all_stand : (texts others : List Text) (old new : DeskView) → KeepsButTexts others old new → AllByRecursion (IsApart others) texts
     → HoldsTexts texts old → HoldsTexts texts new
 all_stand [] others old new keeps apart whole = tt
 all_stand (text ∷ texts) others old new keeps apart whole = (
-  subst (λ (v : OutputView). HoldsWhole v text.name text.text) (sym (keeps text.output apart.0.1 apart.0.0)) whole.0,
+  subst (λ (v : OutputView). HoldsWhole v text.name text.text) (sym (keeps text.output apart.0)) whole.0,
   all_stand texts others old new keeps apart.1 whole.1,
 )
 
 -- texts were written, and others behind them or a part of these
 module _ (one other : List Text) {old mid : DeskView} (new : DeskView) (first : WritesAll one old mid)
-    (apart : AllByRecursion (IsApart other) one) (no_note : AllByRecursion (λ text. text.output ≢ Note) other) where
+    (apart : AllByRecursion (IsApart other) one) where
   others_more : (texts : List Text) → KeepsButTexts texts mid new → KeepsButTexts (one ++ texts) old new
-  others_more texts keeps = λ output not_them is_no_note.
-      keeps output (all_right (λ text. output ≢ text.output) one texts not_them) is_no_note
-      ∙ first.others output (all_left (λ text. output ≢ text.output) one texts not_them) is_no_note
+  others_more texts keeps = λ output not_them.
+      keeps output (all_right (λ text. output ≢ text.output) one texts not_them)
+      ∙ first.others output (all_left (λ text. output ≢ text.output) one texts not_them)
 
   both_hold : (texts : List Text) → KeepsButTexts other mid new → HoldsTexts texts new → HoldsTexts (one ++ texts) new
   both_hold texts keeps whole =
@@ -113,9 +112,9 @@ module _ (one other : List Text) {old mid : DeskView} (new : DeskView) (first : 
   rose_later which cut rose =
       let not_first : AllByRecursion (λ text. which ≢ text.output) one =
       all_weaker (IsApart other) (λ text. which ≢ text.output) (λ text is_apart same.
-      cut_among (λ output. text.output ≢ output) other which is_apart.1 cut (sym same)) one apart in
+      cut_among (λ output. text.output ≢ output) other which is_apart cut (sym same)) one apart in
       subst (λ (v : OutputView). Rose v.faults (new.outputs which).faults)
-      (first.others which not_first (cut_among (λ output. output ≢ Note) other which no_note cut)) rose
+      (first.others which not_first) rose
 
   stopped_later : (error : TextsError) → StopsTexts other mid new error → StopsTexts (one ++ other) old new error
   stopped_later (faults.WriteFault output) h = (rose_later output h.1 h.0, cut_later output h.1)
@@ -126,24 +125,15 @@ module _ (one other : List Text) {old mid : DeskView} (new : DeskView) (first : 
   then_texts (Ok x) h = wrote_more h
   then_texts (Err error) h = stopped_later error h
 
--- the first desk keeps the reports of one before it, and one after the second keeps those of the second
-module _ (old mid late new : DeskView) (first : KeepsReports old mid) (last : KeepsReports late new) (texts : List Text)
-    (no_note : AllByRecursion (λ text. text.output ≢ Note) texts) where
-  keeps_texts : (some : List Text) → KeepsButTexts some mid late → KeepsButTexts some old new
-  keeps_texts some others = λ output not_them is_no_note. last output is_no_note ∙ others output not_them is_no_note
-      ∙ first output is_no_note
+-- no output was touched before the texts were written
+module _ (old mid new : DeskView) (first : KeepsOutputs old mid) (texts : List Text) where
+  keeps_texts : (some : List Text) → KeepsButTexts some mid new → KeepsButTexts some old new
+  keeps_texts some others = λ output not_them. others output not_them ∙ first output
 
-  stay_whole : (some : List Text) → AllByRecursion (λ text. text.output ≢ Note) some → HoldsTexts some late → HoldsTexts some new
-  stay_whole [] none whole = tt
-  stay_whole (text ∷ some) none whole = (
-    subst (λ (v : OutputView). HoldsWhole v text.name text.text) (sym (last text.output none.0)) whole.0,
-    stay_whole some none.1 whole.1,
-  )
+  pub writes_all : WritesAll texts mid new → WritesAll texts old new
+  writes_all wrote = record { others = keeps_texts texts wrote.others; whole = wrote.whole }
 
-  pub writes_all : WritesAll texts mid late → WritesAll texts old new
-  writes_all wrote = record { others = keeps_texts texts wrote.others; whole = stay_whole texts no_note wrote.whole }
-
-  cuts_at : (which : Output) → CutsAt which texts mid late → CutsAt which texts old new
+  cuts_at : (which : Output) → CutsAt which texts mid new → CutsAt which texts old new
   cuts_at which cut = record {
     before = cut.before;
     cut = cut.cut;
@@ -151,18 +141,11 @@ module _ (old mid late new : DeskView) (first : KeepsReports old mid) (last : Ke
     are = cut.are;
     here = cut.here;
     others = keeps_texts (cut.before ++ cut.cut ∷ []) cut.others;
-    whole = stay_whole cut.before (all_left (λ text. text.output ≢ Note) cut.before (cut.cut ∷ cut.behind)
-        (subst (AllByRecursion (λ text. text.output ≢ Note)) cut.are no_note)) cut.whole;
-    front = subst (λ (v : OutputView). HoldsFront v cut.cut.name cut.cut.text)
-        (sym (last which (cut_among (λ output. output ≢ Note) texts which no_note cut))) cut.front;
+    whole = cut.whole;
+    front = cut.front;
   }
 
-  rose_there : (which : Output) → which ≢ Note → OutputFaultsRose mid late which → OutputFaultsRose old new which
-  rose_there which is_no_note rose =
-      subst (λ (v : OutputView). Rose v.faults (new.outputs which).faults) (first which is_no_note)
-      (subst (λ (v : OutputView). Rose (mid.outputs which).faults v.faults) (sym (last which is_no_note)) rose)
-
-  pub stops_texts : (error : TextsError) → StopsTexts texts mid late error → StopsTexts texts old new error
+  pub stops_texts : (error : TextsError) → StopsTexts texts mid new error → StopsTexts texts old new error
   stops_texts (faults.WriteFault output) h =
-      (rose_there output (cut_among (λ o. o ≢ Note) texts output no_note h.1) h.0, cuts_at output h.1)
+      (subst (λ (v : OutputView). Rose v.faults (new.outputs output).faults) (first output) h.0, cuts_at output h.1)
   stops_texts faults.NoMemory h = (h.0, cuts_at h.0 h.1)

@@ -4,7 +4,6 @@ use Rattle.std.specs.List.{AllByRecursion, flat_map}
 use Rattle.fb_desk.specs.Calls.{Rose}
 use Rattle.fb_desk.specs.View.{DeskView, OutputView}
 use Rattle.fb_desk.specs.declared.desk.Output.{Output}
-use Rattle.fb_desk.specs.declared.desk.Output.TheVariants.{Note}
 use Rattle.fb_texts.specs.declared.error.TextsError.{TextsError}
 use Rattle.fb_texts.specs.declared.error.TextsError.TheVariants as faults
 use Rattle.fb_streams.specs.Streams.{IsFront}
@@ -47,9 +46,9 @@ abbrev pub given_text : Output → Option (List ℕ) → List ℕ → List Text
 given_text output None text = []
 given_text output (Some name) text = one_text output name text
 
--- no output but those of these texts and the note has changed
+-- no output but those of these texts has changed
 abbrev pub KeepsButTexts : List Text → DeskView → DeskView → Type 0
-KeepsButTexts texts old new = (output : Output) → AllByRecursion (λ text. output ≢ text.output) texts → output ≢ Note
+KeepsButTexts texts old new = (output : Output) → AllByRecursion (λ text. output ≢ text.output) texts
     → new.outputs output ≡ old.outputs output
 
 -- each of these texts stands whole in its output

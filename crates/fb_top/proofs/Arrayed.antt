@@ -11,7 +11,7 @@ use Rattle.fb_mirror.specs.declared.rebuilt.Rebuilt.{Rebuilt}
 use Rattle.fb_desk.specs.View.{DeskView}
 use Rattle.fb_desk.specs.declared.desk.Input.TheVariants.{Trace}
 use Rattle.fb_desk.specs.declared.desk.Output.{Output}
-use Rattle.fb_desk.specs.declared.desk.Output.TheVariants.{Fore, Back, Copied, Note}
+use Rattle.fb_desk.specs.declared.desk.Output.TheVariants.{Fore, Back, Copied}
 use Rattle.fb_words.specs.Command.{ArrayTerms, RebuildTerms}
 use Rattle.fb_top.specs.Array.{AreRunsOf, ArrayHasCause, IsArrayCut, IsArrayed, IsRunOfDevice, array_texts, rebuild_texts, replacement}
 use Rattle.fb_top.specs.Array.{sectors_of, survivor}
@@ -19,7 +19,7 @@ use Rattle.fb_inputs.specs.Causes.{RunsOut}
 use Rattle.fb_inputs.specs.Devices.{Array, StopsArray, is_rebuilt_from}
 use Rattle.fb_streams.specs.Names.{array_names}
 use Rattle.fb_top.specs.Taken.{TakesArray}
-use Rattle.fb_streams.specs.Streams.{KeepsReports}
+use Rattle.fb_streams.specs.Streams.{KeepsOutputs}
 use Rattle.fb_inputs.specs.declared.error.InputsError.{InputsError}
 use Rattle.fb_inputs.specs.declared.error.InputsError.TheVariants as inputs
 use Rattle.fb_texts.specs.declared.error.TextsError.{TextsError}
@@ -30,53 +30,41 @@ use Rattle.fb_texts.proofs.Texts.{IsApart, stops_texts, writes_all}
 use Rattle.fb_inputs.proofs.Account.{ends_at}
 
 -- what holds of the outputs of a rebuild holds of the texts that it asks for
-all_rebuild : (P : Output → Type 0) (terms : ArrayTerms) (array : Array) (rebuild : Option RebuildTerms) (run : Option Run) → P Back
+pub all_rebuild : (P : Output → Type 0) (terms : ArrayTerms) (array : Array) (rebuild : Option RebuildTerms) (run : Option Run) → P Back
     → P Copied → AllByRecursion (λ text. P text.output) (rebuild_texts terms array rebuild run)
 all_rebuild P terms array (Some rebuild) (Some run) back copied = (back, (copied, tt))
 all_rebuild P terms array (Some rebuild) None back copied = tt
 all_rebuild P terms array None (Some run) back copied = tt
 all_rebuild P terms array None None back copied = tt
 
-pub rebuild_no_note : (terms : ArrayTerms) (array : Array) (runs : List Run)
-    → AllByRecursion (λ text. text.output ≢ Note) (rebuild_texts terms array terms.rebuild (survivor terms.rebuild runs))
-rebuild_no_note terms array runs =
-    all_rebuild (λ output. output ≢ Note) terms array terms.rebuild (survivor terms.rebuild runs) (λ e. cc) (λ e. cc)
-
 -- the text of the sections has an output of its own
 pub sections_apart : (terms : ArrayTerms) (array : Array) (runs : List Run) (name text : List ℕ)
     → AllByRecursion (IsApart (rebuild_texts terms array terms.rebuild (survivor terms.rebuild runs))) (one_text Fore name text)
 sections_apart terms array runs name text = (
-  ((λ e. cc), all_rebuild (λ output. Fore ≢ output) terms array terms.rebuild (survivor terms.rebuild runs) (λ e. cc) (λ e. cc)),
+  all_rebuild (λ output. Fore ≢ output) terms array terms.rebuild (survivor terms.rebuild runs) (λ e. cc) (λ e. cc),
   tt,
 )
 
--- no text of an array is the note
-pub texts_no_note : (terms : ArrayTerms) (array : Array) (runs : List Run)
-    → AllByRecursion (λ text. text.output ≢ Note) (array_texts terms array runs)
-texts_no_note terms array runs = ((λ e. cc), rebuild_no_note terms array runs)
-
--- the first desk keeps the reports of one before it, and one after the second keeps those of the second
-module _ (terms : ArrayTerms) (old mid late new : DeskView) (runs : List Run) (are_runs : AreRunsOf old terms runs)
-    (first : KeepsReports old mid) (last : KeepsReports late new) where
+-- the inputs were read, and then the texts were written
+module _ (terms : ArrayTerms) (old mid new : DeskView) (runs : List Run) (are_runs : AreRunsOf old terms runs)
+    (first : KeepsOutputs old mid) where
   pub arrayed : (copy : Option Rebuilt) → copy ≡ option_map (replacement (sectors_of are_runs.array)) (survivor terms.rebuild runs)
-      → WritesAll (array_texts terms are_runs.array runs) mid late → IsArrayed old new terms runs copy
+      → WritesAll (array_texts terms are_runs.array runs) mid new → IsArrayed old new terms runs copy
   arrayed copy copied wrote = record {
     are_runs = are_runs;
     copied = copied;
-    texts = writes_all old mid late new first last (array_texts terms are_runs.array runs) (texts_no_note terms are_runs.array runs) wrote;
+    texts = writes_all old mid new first (array_texts terms are_runs.array runs) wrote;
   }
 
-  pub array_cut : (error : TextsError) → StopsTexts (array_texts terms are_runs.array runs) mid late error
-      → IsArrayCut old new terms error
+  array_cut : (error : TextsError) → StopsTexts (array_texts terms are_runs.array runs) mid new error → IsArrayCut old new terms error
   array_cut error h = record {
     runs = runs;
     are_runs = are_runs;
-    stops =
-        stops_texts old mid late new first last (array_texts terms are_runs.array runs) (texts_no_note terms are_runs.array runs) error h;
+    stops = stops_texts old mid new first (array_texts terms are_runs.array runs) error h;
   }
 
   -- why the texts were not written
-  pub at_texts : (error : TextsError) → StopsTexts (array_texts terms are_runs.array runs) mid late error
+  pub at_texts : (error : TextsError) → StopsTexts (array_texts terms are_runs.array runs) mid new error
       → ArrayHasCause terms old new (unwritten error)
   at_texts (faults.WriteFault output) h = array_cut (faults.WriteFault output) h
   at_texts faults.NoMemory h = inr (array_cut faults.NoMemory h)

@@ -8,8 +8,8 @@ use Rattle.fb_desk.specs.declared.desk.Input.TheVariants.{BackReport}
 use Rattle.fb_words.specs.Command.{CheckTerms}
 use Rattle.fb_streams.specs.Called.{Stream, check_asks}
 use Rattle.fb_streams.specs.Names.{check_names}
-use Rattle.fb_streams.specs.Streams.{KeepsReports}
-use Rattle.fb_inputs.specs.Account.{Account, AreReadAs, KeepsOutputs}
+use Rattle.fb_streams.specs.Streams.{KeepsOutputs}
+use Rattle.fb_inputs.specs.Account.{Account, AreReadAs}
 use Rattle.fb_inputs.specs.Causes.{StopsInputs}
 use Rattle.fb_inputs.specs.Read.{Files, ReadsReport}
 use Rattle.fb_inputs.specs.declared.error.InputsError.{InputsError}
@@ -73,20 +73,17 @@ verdict_taken {terms} {files} {old} {mid} takes verdict judges = record {
 -- and then the line was written
 module _ (terms : CheckTerms) (old mid new : DeskView) (verdict : Verdict) (is_verdict : IsVerdictOf old terms verdict)
     (outputs : KeepsOutputs old mid) where
-  keeps : KeepsReports old mid
-  keeps = λ output no_note. outputs output
-
   pub line_written : WritesAll (check_texts verdict) mid new → IsChecked old new terms verdict
   line_written wrote = record {
     is_verdict = is_verdict;
-    texts = writes_all old mid new new keeps (λ output no_note. refl) (check_texts verdict) ((λ e. cc), tt) wrote;
+    texts = writes_all old mid new outputs (check_texts verdict) wrote;
   }
 
   cut : (error : TextsError) → StopsTexts (check_texts verdict) mid new error → IsVerdictCut old new terms error
   cut error stops = record {
     verdict = verdict;
     is_verdict = is_verdict;
-    stops = stops_texts old mid new new keeps (λ output no_note. refl) (check_texts verdict) ((λ e. cc), tt) error stops;
+    stops = stops_texts old mid new outputs (check_texts verdict) error stops;
   }
 
   -- or not

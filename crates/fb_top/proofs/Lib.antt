@@ -1,7 +1,7 @@
 pub mod SameText
 pub mod Arrayed
 pub mod Making
-pub mod Notes
+pub mod Alike
 pub mod Completeness
 pub mod RunGaps
 pub mod Untouching

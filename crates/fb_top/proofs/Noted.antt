@@ -1,12 +1,16 @@
 -- Notes that were written, or cut off.
-use Rattle.std.proofs.Common.{◌≡◌, ◌≤◌, ℕ, List, [], ◌++◌, take, drop, ap, ◌∙◌, inl, inr, Option, Some, None, Result, Ok, Err}
-use Rattle.std.specs.Prelude.{IfSome, OnOk, OnErr}
+use Rattle.std.proofs.Common.{◌≡◌, ◌≤◌, ℕ, List, [], ◌++◌, take, drop, ap, refl, ◌∙◌, inl, inr, Option, Some, None, Result, Ok, Err, true, false}
+use Rattle.std.specs.Prelude.{IfSome, OnOk, OnErr, codes, is_ok}
 use Rattle.std.proofs.lemmas.List.{take-append-drop}
-use Rattle.fb_desk.specs.Calls.{Rose, behind}
-use Rattle.fb_desk.specs.View.{OutputView}
+use Rattle.fb_desk.specs.Calls.{MakesCall, Rose, behind}
+use Rattle.fb_desk.specs.View.{OutputView, begins}
+use Rattle.fb_desk.specs.declared.desk.Failed.{Failed}
+use Rattle.fb_desk.specs.declared.desk.Output.TheVariants.{Note}
+use Rattle.fb_streams.specs.Called.{AreServed, Ends, Told, failed_writing, of_output}
 use Rattle.fb_streams.specs.Streams.{AppendsFront}
-use Rattle.fb_top.specs.Noted.{IsNote}
+use Rattle.fb_streams.proofs.Called.{one_call, one_failed, then_calls, then_stops}
 use Rattle.fb_texts.proofs.Fronts.{rose_since}
+use Rattle.fb_top.specs.Noted.{IsNote, MakesNote, asks_note}
 
 whole_note : (first last : OutputView) (old new : Option (List ℕ)) (text line : List ℕ) → IfSome old (λ bytes. bytes ≡ []) → text ≡ line
     → new ≡ behind old text → IfSome new (IsNote line first last)
@@ -38,3 +42,18 @@ note_written (Ok x) first old new text line empty is whole front rose =
     whole_note first new old.written new.written text line empty is whole
 note_written (Err e) first old new text line empty is whole front rose =
     cut_note first new old.written new.written text line empty is front rose
+
+-- the note was begun, or not
+pub note_begun : {T : Type 0} (result : Result T Failed) (old new : Told) → MakesCall (begins Note (codes "-") (is_ok result)) old new
+    → MakesNote old new
+note_begun (Ok x) old new makes =
+    inl (one_call asks_note (begins Note (codes "-") true) old new makes (record { asked_for = refl; succeeded = refl }))
+note_begun (Err failed) old new makes =
+    inr (one_failed asks_note (of_output Note) (begins Note (codes "-") false) old new makes
+    (record { asked_for = refl; of = refl; failed = refl }))
+
+-- the note was begun, and written or cut off
+pub note_made : {T : Type 0} (result : Result T Failed) {a b : Told} (c : Told) → AreServed asks_note a b
+    → Ends (failed_writing Note) asks_note result b c → MakesNote a c
+note_made (Ok x) c first second = inl (then_calls first second)
+note_made (Err failed) c first second = inr (then_stops first second)

@@ -7,31 +7,19 @@ use Rattle.fb_geometry.specs.Places.{places}
 use Rattle.fb_geometry.specs.Shape.{cylinders_of}
 use Rattle.fb_service.specs.declared.disk.Disk.{Disk}
 use Rattle.fb_params.specs.ParamsValue.{ParamsValue}
-use Rattle.fb_params.specs.Reading.{params_of}
-use Rattle.fb_trace.specs.Reading.{Accepted, trace_of}
-use Rattle.fb_calls.specs.Reading.{Accepted as Script, calls_of}
+use Rattle.fb_trace.specs.Reading.{Accepted}
+use Rattle.fb_calls.specs.Reading.{Accepted as Script}
 use Rattle.fb_desk.specs.View.{DeskView}
 use Rattle.fb_streams.specs.Names.{FileNames}
 use Rattle.fb_inputs.specs.Read.{Accepts, Files, ReadsDisk, ReadsTrace, ReadsScript}
 use Rattle.fb_top.specs.Untouched.{HoldAlike, HoldFilesAlike}
-use Rattle.fb_top.proofs.Completeness.{same_ok}
-
--- what was read are the bytes that are told
-pub held_here : (told : Option (List ℕ)) (bytes here : List ℕ) → told ≡ Some here → IfSome told (λ held. bytes ≡ held) → bytes ≡ here
-held_here told bytes here e is = subst (λ (t : Option (List ℕ)). IfSome t (λ held. bytes ≡ held)) e is
-
-both_held : (one other : DeskView) (name : List ℕ) (bytes bytes' : List ℕ) → HoldAlike one other name
-    → IfSome (one.held name) (λ held. bytes ≡ held) → IfSome (other.held name) (λ held. bytes' ≡ held) → bytes ≡ bytes'
-both_held one other name bytes bytes' alike held held' =
-    held_here (one.held name) bytes alike.0 alike.1 held ∙ sym (held_here (other.held name) bytes' alike.0 alike.2 held')
+use Rattle.fb_top.proofs.Alike.{accepted_once}
 
 pub one_value : (one other : DeskView) (name : List ℕ) (disk disk' : Disk) (latent latent' : List ℕ) → HoldAlike one other name
     → ReadsDisk one name disk latent → ReadsDisk other name disk' latent'
     → ◌≡◌ {A = ParamsValue} (record { outline = disk.map; mechanics = disk.mechanism; sector_bytes = disk.sector_bytes; latent = latent })
     (record { outline = disk'.map; mechanics = disk'.mechanism; sector_bytes = disk'.sector_bytes; latent = latent' })
-one_value one other name disk disk' latent latent' alike reads reads' =
-    same_ok (params_of reads.bytes) _ _ reads.spells
-    (ap params_of (both_held one other name reads.bytes reads'.bytes alike reads.held reads'.held) ∙ reads'.spells)
+one_value one other name disk disk' latent latent' alike reads reads' = accepted_once one other name alike reads reads'
 
 -- what every disk of a file keeps
 abbrev Keeps : ParamsValue → Type 0
@@ -83,25 +71,15 @@ one_disk one other name disk disk' latent latent' alike reads reads' =
     same_with _ _ (one_value one other name disk disk' latent latent' alike reads reads') (kept_by disk latent) (kept_by disk' latent')
 
 pub one_trace : (one other : DeskView) (name : List ℕ) (device : ℕ) (disk disk' : Disk) (trace trace' : Accepted) → disk ≡ disk'
-    → HoldAlike one other name
-    → ReadsTrace one name device disk trace → ReadsTrace other name device disk' trace' → trace ≡ trace'
+    → HoldAlike one other name → ReadsTrace one name device disk trace → ReadsTrace other name device disk' trace' → trace ≡ trace'
 one_trace one other name device disk disk' trace trace' same alike reads reads' =
-    same_ok (trace_of device (length (places disk.map)) reads.bytes) _ _ reads.spells
-    (ap (λ (d : Disk). trace_of device (length (places d.map)) reads.bytes) same
-    ∙ ap (trace_of device (length (places disk'.map))) (both_held one other name reads.bytes reads'.bytes alike reads.held reads'.held)
-    ∙ reads'.spells)
+    accepted_once one other name alike reads (subst (λ (d : Disk). ReadsTrace other name device d trace') (sym same) reads')
 
-one_script : (one other : DeskView) (given : Option (List ℕ)) (disk disk' : Disk) (trace trace' : Accepted) (script script' : Script)
-    → disk ≡ disk' → trace ≡ trace' → IfSome given (HoldAlike one other)
-    → ReadsScript one given disk (length trace.requests) script → ReadsScript other given disk' (length trace'.requests) script'
+one_script : (one other : DeskView) (given : Option (List ℕ)) (disk : Disk) (traced : ℕ) (script script' : Script)
+    → IfSome given (HoldAlike one other) → ReadsScript one given disk traced script → ReadsScript other given disk traced script'
     → script ≡ script'
-one_script one other None disk disk' trace trace' script script' same same_trace alike reads reads' = reads ∙ sym reads'
-one_script one other (Some name) disk disk' trace trace' script script' same same_trace alike reads reads' =
-    same_ok (calls_of disk.map (length trace.requests) reads.bytes) _ _ reads.spells
-    (ap (λ (d : Disk). calls_of d.map (length trace.requests) reads.bytes) same
-    ∙ ap (λ (t : Accepted). calls_of disk'.map (length t.requests) reads.bytes) same_trace
-    ∙ ap (calls_of disk'.map (length trace'.requests)) (both_held one other name reads.bytes reads'.bytes alike reads.held reads'.held)
-    ∙ reads'.spells)
+one_script one other None disk traced script script' alike reads reads' = reads ∙ sym reads'
+one_script one other (Some name) disk traced script script' alike reads reads' = accepted_once one other name alike reads reads'
 
 all_one : (a b : Files) → a.disk ≡ b.disk → a.latent ≡ b.latent → a.trace ≡ b.trace → a.script ≡ b.script → a ≡ b
 all_one a b disk latent trace script =
@@ -115,8 +93,11 @@ pub one_reading : (one other : DeskView) (terms : FileNames) (a b : Files) → H
     → Accepts other terms b → a ≡ b
 one_reading one other terms a b alike reads reads' =
     let value = one_value one other terms.params a.disk b.disk a.latent b.latent alike.params reads.disk reads'.disk in
-    let disk : a.disk ≡ b.disk = one_disk one other terms.params a.disk b.disk a.latent b.latent alike.params reads.disk reads'.disk in
-    let trace : a.trace ≡ b.trace =
-    one_trace one other terms.trace terms.device a.disk b.disk a.trace b.trace disk alike.trace reads.trace reads'.trace in
+    let disk : a.disk ≡ b.disk = one_disk one other terms.params a.disk b.disk a.latent b.latent alike.params
+    reads.disk reads'.disk in
+    let trace : a.trace ≡ b.trace = one_trace one other terms.trace terms.device a.disk b.disk a.trace b.trace disk alike.trace
+    reads.trace reads'.trace in
     all_one a b disk (ap (λ (v : ParamsValue). v.latent) value) trace
-    (one_script one other terms.calls a.disk b.disk a.trace b.trace a.script b.script disk trace alike.calls reads.script reads'.script)
+    (one_script one other terms.calls a.disk (length a.trace.requests) a.script b.script alike.calls reads.script
+    (subst (λ (d : Disk). ReadsScript other terms.calls d (length a.trace.requests) b.script) (sym disk)
+    (subst (λ (t : Accepted). ReadsScript other terms.calls b.disk (length t.requests) b.script) (sym trace) reads'.script)))

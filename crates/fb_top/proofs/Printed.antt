@@ -1,5 +1,5 @@
 -- Reports that a replay printed, and that a check reads.
-use Rattle.std.proofs.Common.{◌≡◌, ◌⊎◌, ℕ, List, length, Option, Some, None, true, refl, sym, ap, subst, ◌∙◌, inl, inr}
+use Rattle.std.proofs.Common.{◌≡◌, ◌⊎◌, ℕ, List, length, Option, Some, None, refl, sym, ap, subst, ◌∙◌, inl, inr}
 use Rattle.std.proofs.lemmas.List.Folds.{flat_map-map}
 use Rattle.std.specs.Prelude.{IfSome, is_some}
 use Rattle.fb_service.specs.declared.disk.Disk.{Disk}
@@ -22,10 +22,9 @@ use Rattle.fb_top.specs.Spilled.{spill_told}
 use Rattle.fb_units.proofs.Lists.{all_left}
 use Rattle.fb_inputs.specs.Read.{Accepts, Files, ReadsScript}
 use Rattle.fb_streams.specs.Names.{FileNames}
-use Rattle.fb_streams.specs.Streams.{IsHeld, ReadsAs}
 use Rattle.fb_top.specs.Untouched.{HasReplayed, HoldAlike, HoldFilesAlike, HoldsLines, HoldsWritten}
 use Rattle.fb_texts.specs.Written.{HoldsTexts, HoldsWhole, given_text, joined}
-use Rattle.fb_top.proofs.OneRun.{held_here}
+use Rattle.fb_top.proofs.Alike.{reads_there}
 
 -- what a replay has printed, without puts or with them
 pub record Prints (old new : DeskView) (terms : ReplayTerms) (run : Run) : Type 0 where
@@ -66,28 +65,16 @@ module _ (output : OutputView) (desk : DeskView) (name under : List ℕ) (gramma
 
 -- files of the same bytes are accepted on both desks
 module _ (one other : DeskView) where
-  held_there : (name bytes : List ℕ) → HoldAlike one other name → IsHeld one name bytes → IsHeld other name bytes
-  held_there name bytes alike held = subst (λ (told : Option (List ℕ)). IfSome told (λ here. bytes ≡ here)) (sym alike.2)
-      (held_here (one.held name) bytes alike.0 alike.1 held)
-
-  reads_there : {A : Type 0} {limit : ℕ} {read : List ℕ → A} {verdict : A} (name : List ℕ) → HoldAlike one other name
-      → ReadsAs one name limit read verdict → ReadsAs other name limit read verdict
-  reads_there name alike reads =
-      record { bytes = reads.bytes; held = held_there name reads.bytes alike reads.held; within = reads.within; spells = reads.spells }
-
-  pub told_there : (name : List ℕ) → HoldAlike one other name → is_some (other.held name) ≡ true
-  told_there name alike = ap is_some alike.2
-
   script_there : (given : Option (List ℕ)) (disk : Disk) (traced : ℕ) (script : Script) → IfSome given (HoldAlike one other)
       → ReadsScript one given disk traced script → ReadsScript other given disk traced script
   script_there None disk traced script alike reads = reads
-  script_there (Some name) disk traced script alike reads = reads_there name alike reads
+  script_there (Some name) disk traced script alike reads = reads_there one other name alike reads
 
   pub accepted_there : (terms : FileNames) (files : Files) → HoldFilesAlike one other terms → Accepts one terms files
       → Accepts other terms files
   accepted_there terms files alike reads = record {
-    disk = reads_there terms.params alike.params reads.disk;
-    trace = reads_there terms.trace alike.trace reads.trace;
+    disk = reads_there one other terms.params alike.params reads.disk;
+    trace = reads_there one other terms.trace alike.trace reads.trace;
     script = script_there terms.calls files.disk (length files.trace.requests) files.script alike.calls reads.script;
   }
 

@@ -1,6 +1,6 @@
 -- The verdict on right reports.
 use Rattle.std.proofs.Common.{◌≡◌, ℕ, List, refl, sym, ap, ◌∙◌, inl, inr}
-use Rattle.std.specs.Prelude.{map, slice_get}
+use Rattle.std.specs.Prelude.{Ok, Result, map, slice_get}
 use Rattle.fb_rows.specs.declared.run.Run.{Run}
 use Rattle.fb_model.specs.Accepted.{IsAccepted}
 use Rattle.fb_model.specs.FullRun.{IsFull}
@@ -16,8 +16,7 @@ use Rattle.fb_check.specs.declared.verdict.Verdict.TheVariants.{Yes, No}
 use Rattle.fb_inputs.specs.Read.{ReadsReport}
 use Rattle.fb_top.specs.Untouched.{HoldsLines}
 use Rattle.fb_texts.specs.Written.{joined}
-use Rattle.fb_top.proofs.Completeness.{same_ok}
-use Rattle.fb_top.proofs.OneRun.{held_here}
+use Rattle.fb_top.proofs.Alike.{held_here}
 
 module _ (one_run : OneFullRun) (inputs : Inputs) (printed : Reports) (run : Run) (accepted : IsAccepted inputs) (full : IsFull inputs run)
     (fore : HasForeLines inputs printed run) (back : HasBackLines inputs printed run) where
@@ -37,10 +36,14 @@ module _ (one_run : OneFullRun) (inputs : Inputs) (printed : Reports) (run : Run
   is_yes Yes h = refl
   is_yes (No mismatch) h = absurd (not_wrong mismatch h)
 
+lines_once : {E : Type 0} (verdict : Result (List LineFields) E) (one two : List LineFields) → verdict ≡ Ok one → verdict ≡ Ok two
+    → one ≡ two
+lines_once verdict one two e f = cc
+
 -- a report of these lines is read as these lines
 pub read_as : (desk : DeskView) (name : List ℕ) (grammar : Grammar) (lines : List (List ℕ)) (found : List LineFields)
     → HoldsLines desk name grammar lines → ReadsReport desk name grammar found → lines ≡ map spelled found
 read_as desk name grammar lines found holds reads =
-    sym holds.read.are ∙ ap (map spelled) (same_ok (report_of grammar reads.bytes) holds.read.parts found
+    sym holds.read.are ∙ ap (map spelled) (lines_once (report_of grammar reads.bytes) holds.read.parts found
     (ap (report_of grammar) (held_here (desk.held name) reads.bytes (joined lines) holds.held reads.held) ∙ holds.read.read)
     reads.spells)

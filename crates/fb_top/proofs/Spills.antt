@@ -10,12 +10,11 @@ use Rattle.fb_bgwrite.specs.declared.items.SpillRun.{SpillRun}
 use Rattle.fb_desk.specs.View.{DeskView}
 use Rattle.fb_desk.specs.declared.desk.Input.TheVariants.{Puts}
 use Rattle.fb_desk.specs.declared.desk.Output.{Output}
-use Rattle.fb_desk.specs.declared.desk.Output.TheVariants.{Fore, Back, Spill, Note}
+use Rattle.fb_desk.specs.declared.desk.Output.TheVariants.{Fore, Back, Spill}
 use Rattle.fb_words.specs.Command.{ReplayTerms}
 use Rattle.fb_inputs.specs.Causes.{RunsOut}
 use Rattle.fb_inputs.specs.Read.{AcceptsPuts, Files, inputs_of_files, key_of}
 use Rattle.fb_streams.specs.Names.{replay_names}
-use Rattle.fb_streams.specs.Streams.{KeepsReports}
 use Rattle.fb_texts.specs.declared.error.TextsError.{TextsError}
 use Rattle.fb_texts.specs.declared.error.TextsError.TheVariants as faults
 use Rattle.fb_texts.specs.Written.{StopsTexts, Text, WritesAll, WritesTexts, given_text}
@@ -45,11 +44,6 @@ all_replay P terms files run (Some written) fore back spill =
     all_append (λ text. P text.output) (report_texts terms files run) (given_text Spill terms.spill (spill_told terms files written))
     (all_reports P terms files run fore back) (all_given P Spill terms.spill (spill_told terms files written) spill)
 
--- none of them is the note
-pub replay_no_note : (terms : ReplayTerms) (files : Files) (run : Run) (spill : Option SpillRun)
-    → AllByRecursion (λ text. text.output ≢ Note) (replay_texts terms files run spill)
-replay_no_note terms files run spill = all_replay (λ output. output ≢ Note) terms files run spill (λ e. cc) (λ e. cc) (λ e. cc)
-
 -- the reports were not all written
 pub reports_stopped : (terms : ReplayTerms) (files : Files) (run : Run) (spill : Option SpillRun) (old new : DeskView) (error : TextsError)
     → StopsTexts (report_texts terms files run) old new error → StopsTexts (replay_texts terms files run spill) old new error
@@ -66,10 +60,9 @@ then_spill terms files run spill new result reports h =
     let told = spill_told terms files spill in
     let text = given_text Spill terms.spill told in
     then_texts (report_texts terms files run) text new reports
-    (all_reports (λ output. (output ≢ Note) × AllByRecursion (λ other. output ≢ other.output) text) terms files run
-    ((λ e. cc), all_given (λ output. Fore ≢ output) Spill terms.spill told (λ e. cc))
-    ((λ e. cc), all_given (λ output. Back ≢ output) Spill terms.spill told (λ e. cc)))
-    (all_given (λ output. output ≢ Note) Spill terms.spill told (λ e. cc)) result h
+    (all_reports (λ output. AllByRecursion (λ other. output ≢ other.output) text) terms files run
+    (all_given (λ output. Fore ≢ output) Spill terms.spill told (λ e. cc))
+    (all_given (λ output. Back ≢ output) Spill terms.spill told (λ e. cc))) result h
 
 -- no spills were written where the words name no puts
 no_puts : (desk : DeskView) (files : Files) (run : Run) (given : Option (List ℕ)) (puts : Option PutsRead)
@@ -89,9 +82,6 @@ module _ (terms : ReplayTerms) (files : Files) (puts : Option PutsRead) (old mid
   module _ (run : Run) (full : IsFull (inputs_of_files files (key_of terms.policy) terms.until) run) where
     abbrev is_run : IsRunOf old terms run
     is_run = record { files = files; accepts = takes.accepts; sound = takes.sound; accepted = takes.fit; full = full }
-
-    keeps : KeepsReports old mid
-    keeps output no_note = takes.account.outputs output
 
     read_back : (CanBeRead files run → AreReadBack terms files run) → AreReadBack terms files run
     read_back read = read (run_can_be_read old terms run is_run)
@@ -113,7 +103,7 @@ module _ (terms : ReplayTerms) (files : Files) (puts : Option PutsRead) (old mid
         accepts_puts = takes.accepts_puts;
         spill = given;
         writes = writes;
-        stops = stops_texts old mid new new keeps (λ output no_note. refl) texts (replay_no_note terms files run given) error stops;
+        stops = stops_texts old mid new takes.account.outputs texts error stops;
       }
 
       -- the texts were not all written
@@ -129,14 +119,12 @@ module _ (terms : ReplayTerms) (files : Files) (puts : Option PutsRead) (old mid
       is_run = is_run;
       is_spill = spill_of puts spill takes.accepts_puts writes;
       named = sym named;
-      texts = writes_all old mid new new keeps (λ output no_note. refl) (replay_texts terms files run (Some spill))
-          (replay_no_note terms files run (Some spill)) wrote;
+      texts = writes_all old mid new takes.account.outputs (replay_texts terms files run (Some spill)) wrote;
       read = read_back read;
     }
     all_written None new writes named wrote read = record {
       no_puts = no_puts old files run terms.puts puts takes.accepts_puts writes;
       is_run = is_run;
-      texts = writes_all old mid new new keeps (λ output no_note. refl) (replay_texts terms files run None)
-          (replay_no_note terms files run None) wrote;
+      texts = writes_all old mid new takes.account.outputs (replay_texts terms files run None) wrote;
       read = read_back read;
     }

@@ -1,5 +1,5 @@
 -- What the replay of an array has written, and why.
-use Rattle.std.specs.Prelude.{◌≡◌, ◌≢◌, ◌⊎◌, ℕ, List, [], ◌++◌, length, codes, slice_get, Option, Some, option_and_then, true, is_some}
+use Rattle.std.specs.Prelude.{◌≡◌, ◌⊎◌, ℕ, List, [], ◌++◌, length, codes, slice_get, Option, Some, option_and_then, true, is_some}
 use Rattle.std.specs.Option.{option_map}
 use Rattle.std.specs.String.{string_bytes}
 use Rattle.fb_geometry.specs.Places.{places}
@@ -14,8 +14,7 @@ use Rattle.fb_mirror.specs.Replacement.{contents_after, covered_after, events, s
 use Rattle.fb_mirror.specs.declared.rebuilt.Rebuilt.{Rebuilt}
 use Rattle.fb_desk.specs.View.{DeskView}
 use Rattle.fb_desk.specs.declared.desk.Input.{Input}
-use Rattle.fb_desk.specs.declared.desk.Output.{Output}
-use Rattle.fb_desk.specs.declared.desk.Output.TheVariants.{Fore, Back, Copied, Note}
+use Rattle.fb_desk.specs.declared.desk.Output.TheVariants.{Fore, Back, Copied}
 use Rattle.fb_words.specs.Command.{ArrayTerms, RebuildTerms}
 use Rattle.fb_words.specs.declared.command.RebuildWords.{RebuildWords}
 use Rattle.fb_texts.specs.declared.lines.BackLines.{BackLines}
@@ -97,14 +96,16 @@ ArrayHasCause terms old new (outcomes.WriteFault output) = IsArrayCut old new te
 ArrayHasCause terms old new outcomes.NoMemory = RunsOut old new (array_names terms) ⊎ IsArrayCut old new terms faults.NoMemory
 ArrayHasCause terms old new outcome = IsUnaccepted (StopsArray terms old new) outcome
 
--- the desk tells what the files hold, they are accepted with the script of the rebuild, and no count of faults rises but perhaps the note's
+-- the desk tells what the files hold, they are accepted with the script of the rebuild, and no count of faults rises
 pub record ArrayGoesWell (old new : DeskView) (terms : ArrayTerms) : Type 0 where
   pub array : Array
   pub accepts : AcceptsArray old terms array
   pub params_told : is_some (old.held terms.params) ≡ true
   pub trace_told : is_some (old.held terms.trace) ≡ true
   pub inputs : (input : Input) → FaultsRose old new input → ⊥
-  pub outputs : (output : Output) → output ≢ Note → OutputFaultsRose old new output → ⊥
+  pub fore : OutputFaultsRose old new Fore → ⊥
+  pub back : OutputFaultsRose old new Back → ⊥
+  pub copied : OutputFaultsRose old new Copied → ⊥
 
 -- the array was replayed, unless memory ran out
 abbrev pub IsReplayed : Outcome → Type 0

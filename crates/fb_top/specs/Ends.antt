@@ -1,6 +1,6 @@
 -- How the calls of a command end.
 use Rattle.std.specs.Prelude.{◌≡◌, Option, Some, None}
-use Rattle.fb_streams.specs.Called.{Asked, EndsBy, MakesNote, Stream, Told, of_input, of_output}
+use Rattle.fb_streams.specs.Called.{Asked, EndsBy, Stream, Told, of_input, of_output}
 use Rattle.fb_inputs.specs.declared.error.InputsError.{InputsError}
 use Rattle.fb_inputs.specs.declared.error.InputsError.TheVariants as inputs
 use Rattle.fb_texts.specs.declared.error.TextsError.{TextsError}
@@ -37,18 +37,3 @@ IsUnaccepted stops outcome = (error : InputsError) × (outcome ≡ unread error)
 -- the calls of a command with this outcome: where a call failed, it was the last, and the outcome names its input or its output
 abbrev pub EndsAs : Asked → Outcome → Told → Told → Type 0
 EndsAs asked outcome old new = EndsBy asked (failed_at outcome) old new
-
--- the calls of the note's output after an outcome: none where a command was done
-abbrev pub NotesCalls : Outcome → Told → Told → Type 0
-NotesCalls (outcomes.Done run) old new = new ≡ old
-NotesCalls (outcomes.Made n) old new = new ≡ old
-NotesCalls (outcomes.Checked verdict) old new = new ≡ old
-NotesCalls (outcomes.Arrayed runs copy) old new = new ≡ old
-NotesCalls (outcomes.Spilled run spill) old new = new ≡ old
-NotesCalls outcome old new = MakesNote old new
-
--- the calls of a command, and behind them those of the note
-pub record EndsWithNote (asked : Asked) (outcome : Outcome) (old new : Told) : Type 0 where
-  pub between : Told
-  pub command : EndsAs asked outcome old between
-  pub note : NotesCalls outcome between new

@@ -13,7 +13,7 @@ use Rattle.fb_words.specs.Command.{MakeTerms}
 use Rattle.fb_top.specs.declared.outcome.Outcome.{Outcome}
 use Rattle.fb_top.specs.declared.outcome.Outcome.TheVariants as outcomes
 use Rattle.fb_inputs.specs.Read.{RefusesDisk}
-use Rattle.fb_streams.specs.Streams.{IsLonger, KeepsReports}
+use Rattle.fb_streams.specs.Streams.{IsLonger, KeepsOutputs}
 use Rattle.fb_texts.specs.declared.error.TextsError.{TextsError}
 use Rattle.fb_texts.specs.declared.error.TextsError.TheVariants as faults
 use Rattle.fb_texts.specs.Written.{OutputFaultsRose, StopsTexts, Text, WritesAll, one_text}
@@ -50,14 +50,14 @@ pub record IsMakeCut (old new : DeskView) (terms : MakeTerms) (error : TextsErro
 -- the cause of each answer to the terms of a make
 abbrev pub MakeHasCause : MakeTerms → DeskView → DeskView → Outcome → Type 0
 MakeHasCause terms old new (outcomes.Made n) = WritesBoth old new terms n
-MakeHasCause terms old new (outcomes.Params fault) = RefusesDisk old terms.params fault × KeepsReports old new
-MakeHasCause terms old new (outcomes.TooLong Params) = IsLonger old terms.params (limit_of Params) × KeepsReports old new
-MakeHasCause terms old new (outcomes.ReadFault Params) = FaultsRose old new Params × KeepsReports old new
+MakeHasCause terms old new (outcomes.Params fault) = RefusesDisk old terms.params fault × KeepsOutputs old new
+MakeHasCause terms old new (outcomes.TooLong Params) = IsLonger old terms.params (limit_of Params) × KeepsOutputs old new
+MakeHasCause terms old new (outcomes.ReadFault Params) = FaultsRose old new Params × KeepsOutputs old new
 MakeHasCause terms old new (outcomes.WriteFault output) = IsMakeCut old new terms (faults.WriteFault output)
-MakeHasCause terms old new outcomes.NoMemory = KeepsReports old new ⊎ IsMakeCut old new terms faults.NoMemory
+MakeHasCause terms old new outcomes.NoMemory = KeepsOutputs old new ⊎ IsMakeCut old new terms faults.NoMemory
 MakeHasCause terms old new _ = ⊥
 
--- the desk tells what the parameter file holds, it is accepted, and no count of faults rises but perhaps the note's
+-- the desk tells what the parameter file holds, it is accepted, and no count of faults rises
 pub record MakeGoesWell (old new : DeskView) (terms : MakeTerms) : Type 0 where
   pub makes : AcceptsDisk old terms.params
   pub params_told : is_some (old.held terms.params) ≡ true

@@ -3,12 +3,10 @@ ghost use Rattle.std.specs.Prelude.{◌≡◌, map};
 ghost use Rattle.std.specs.String.{string_bytes};
 ghost use Rattle.fb_desk.specs.View.{IsUnused};
 ghost use Rattle.fb_words.specs.Command.{command_of};
-ghost use Rattle.fb_top.specs.Answers.{AnswersWords};
-ghost use Rattle.fb_top.specs.Complete.{IsComplete};
-ghost use Rattle.fb_top.specs.Noted.{LeavesNote};
+ghost use Rattle.fb_top.specs.Answers.{AnswersWords, IsAnswered};
 ghost use Rattle.fb_inputs.specs.Account.{AreReadAs};
 ghost use Rattle.fb_top.specs.Ended.{EndsWith};
-ghost use Rattle.fb_top.specs.Ends.{EndsAs, EndsWithNote};
+ghost use Rattle.fb_top.specs.Ends.{EndsAs};
 ghost use Rattle.fb_streams.specs.Called.{asked_by};
 
 use crate::array::run_array;
@@ -47,12 +45,7 @@ use std::alloc::Global;
 /// outcome is the same whether that line can be written or not. The desk must be unused.
 pub fn run_command<D: Desk>(alloc: Global, desk: &mut D, words: &[String]) -> Outcome
     requires { IsUnused (D.seen desk.old) }
-    ensures answers { AnswersWords (command_of (map string_bytes words.now)) (D.seen desk.old) (D.seen desk.new) result }
-    ensures complete { IsComplete (command_of (map string_bytes words.now)) (D.seen desk.old) (D.seen desk.new) result }
-    ensures inputs { AreReadAs (asked_by (command_of (map string_bytes words.now))).inputs (D.seen desk.old) (D.seen desk.new) }
-    ensures calls { EndsWithNote (asked_by (command_of (map string_bytes words.now))) result
-        (D.seen desk.old).calls (D.seen desk.new).calls }
-    ensures note { LeavesNote result ((D.seen desk.old).outputs Output.Note) ((D.seen desk.new).outputs Output.Note) }
+    ensures { IsAnswered (command_of (map string_bytes words.now)) (D.seen desk.old) (D.seen desk.new) result }
 {
     let outcome = answer_words(alloc, desk, words);
     write_note(alloc, desk, &outcome);

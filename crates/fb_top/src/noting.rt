@@ -1,10 +1,7 @@
 // Writes the note.
 ghost use Rattle.std.specs.Prelude.{◌≡◌, false};
-ghost use Rattle.fb_desk.specs.Calls.{ChangesOutput};
-ghost use Rattle.fb_top.specs.Noted.{LeavesNote, TellsNote};
+ghost use Rattle.fb_top.specs.Noted.{IsNoted, WritesNote};
 ghost use Rattle.fb_top.specs.Notes.{note_of};
-ghost use Rattle.fb_streams.specs.Called.{MakesNote};
-ghost use Rattle.fb_top.specs.Ends.{NotesCalls};
 
 use crate::Outcome;
 use crate::note::note_text;
@@ -17,9 +14,7 @@ use std::alloc::Global;
 /// Where that fails or runs out of memory, the note is left as it then is.
 pub fn write_note<D: Desk>(alloc: Global, desk: &mut D, outcome: &Outcome)
     requires { ((D.seen desk.old).outputs Output.Note).begun ≡ false }
-    ensures only { ChangesOutput Output.Note (D.seen desk.old) (D.seen desk.new) }
-    ensures calls { NotesCalls outcome.now (D.seen desk.old).calls (D.seen desk.new).calls }
-    ensures note { LeavesNote outcome.now ((D.seen desk.old).outputs Output.Note) ((D.seen desk.new).outputs Output.Note) }
+    ensures { IsNoted outcome.now (D.seen desk.old) (D.seen desk.new) }
 {
     match outcome {
         Outcome::Done(_) => {}
@@ -34,9 +29,7 @@ pub fn write_note<D: Desk>(alloc: Global, desk: &mut D, outcome: &Outcome)
 // Begins the note and writes its text.
 fn begin_note<D: Desk>(alloc: Global, desk: &mut D, outcome: &Outcome)
     requires { ((D.seen desk.old).outputs Output.Note).begun ≡ false }
-    ensures only { ChangesOutput Output.Note (D.seen desk.old) (D.seen desk.new) }
-    ensures calls { MakesNote (D.seen desk.old).calls (D.seen desk.new).calls }
-    ensures note { TellsNote (note_of outcome.now) ((D.seen desk.old).outputs Output.Note) ((D.seen desk.new).outputs Output.Note) }
+    ensures { WritesNote (note_of outcome.now) (D.seen desk.old) (D.seen desk.new) }
 {
     let Ok(()) = desk.begin_output(Output::Note, "-") else {
         return;

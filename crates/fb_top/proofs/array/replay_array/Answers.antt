@@ -1,4 +1,4 @@
-use Rattle.std.proofs.Common.{◌≤◌, ◌∙◌, ℕ, ◌<◌, refl, sym, subst, inl}
+use Rattle.std.proofs.Common.{◌≤◌, ◌∙◌, ℕ, ◌<◌, sym, subst, inl}
 use Rattle.std.specs.Prelude.{IfSome}
 use Rattle.fb_words.specs.Verdict.{array_terms}
 use Rattle.fb_top.proofs.Arrayed.{arrayed, at_texts, ran_out, runs_taken}
@@ -33,8 +33,7 @@ pub returns-in-Ok-write_array-clause-cause : goal.returns-in-Ok-write_array-clau
 returns-in-Ok-write_array-clause-cause g c = λ first takes.
     let new = g.D.Desk.seen c.write_array.new.desk in
     let are_runs = runs_taken takes c.in-Ok.runs (c.in-Ok.ensures.count ∙ c.requires.count) c.in-Ok.ensures.full in
-    arrayed (array_terms c.args.words.now) first _ new new c.in-Ok.runs are_runs
-    (λ output no_note. takes.account.outputs output) (λ output no_note. refl)
+    arrayed (array_terms c.args.words.now) first _ new c.in-Ok.runs are_runs takes.account.outputs
     c.in-Ok-copy_survivor.copy c.in-Ok-copy_survivor.ensures.copied c.in-Ok-write_array.ensures.texts
 
 pub returns-in-Err-write_array-clause-cause : goal.returns-in-Err-write_array-clause-cause
@@ -42,8 +41,7 @@ returns-in-Err-write_array-clause-cause g c = λ first takes.
     let new = g.D.Desk.seen c.write_array.new.desk in
     let are_runs = runs_taken takes c.in-Ok.runs (c.in-Ok.ensures.count ∙ c.requires.count) c.in-Ok.ensures.full in
     subst (λ (outcome : Outcome). ArrayHasCause (array_terms c.args.words.now) first new outcome) (sym c.from.ensures)
-    (at_texts (array_terms c.args.words.now) first _ new new c.in-Ok.runs are_runs
-    (λ output no_note. takes.account.outputs output) (λ output no_note. refl)
+    (at_texts (array_terms c.args.words.now) first _ new c.in-Ok.runs are_runs takes.account.outputs
     c.in-Err-write_array.error c.in-Err-write_array.ensures.texts)
 
 pub returns-in-Err-clause-calls : goal.returns-in-Err-clause-calls

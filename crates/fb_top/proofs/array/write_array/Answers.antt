@@ -13,7 +13,7 @@ use Rattle.fb_texts.specs.Sections.{array_lines}
 use Rattle.fb_texts.specs.Written.{Text, WritesTexts, joined, one_text}
 use Rattle.fb_texts.proofs.Texts.{stopped_sooner, then_texts}
 use Rattle.fb_top.specs.Array.{rebuild_texts, survivor}
-use Rattle.fb_top.proofs.Arrayed.{is_from, rebuild_no_note, rebuild_told, sections_apart}
+use Rattle.fb_top.proofs.Arrayed.{is_from, rebuild_told, sections_apart}
 use Rattle.fb_top.proofs.array.write_array.Goals as goal
 
 pub returns-in_err-write_lines-clause-texts : goal.returns-in_err-write_lines-clause-texts
@@ -48,7 +48,7 @@ returns-in-Some-Some-clause-texts g c =
     (survivor terms.rebuild runs) c.in-Some-Some.copy.now given there made in
     let text = joined (array_lines array.disk.sector_bytes terms.bytes runs) in
     then_texts (one_text Fore (codes "-") text) (rebuild_texts terms array terms.rebuild (survivor terms.rebuild runs)) new
-    c.in_ok-write_lines.ensures.texts (sections_apart terms array runs (codes "-") text) (rebuild_no_note terms array runs)
+    c.in_ok-write_lines.ensures.texts (sections_apart terms array runs (codes "-") text)
     c.write_rebuild.result
     (subst (λ (texts : List Text). WritesTexts texts mid new c.write_rebuild.result) told c.write_rebuild.ensures.texts)
 

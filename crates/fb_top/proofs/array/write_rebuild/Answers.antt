@@ -37,7 +37,7 @@ returns-clause-texts g c =
     let copied = joined (copy_lines copy.copy.now copy.sectors) in
     then_texts (one_text Back (string_bytes words.back) text) (one_text Copied (string_bytes words.copy) copied) new
     (subst (λ (name : List ℕ). WritesAll (one_text Back name text) old mid) c.as_str.ensures.value c.in_ok-write_lines.ensures.texts)
-    (((λ e. cc), ((λ e. cc), tt)), tt) ((λ e. cc), tt) c.write_lines-2.result
+    (((λ e. cc), tt), tt) c.write_lines-2.result
     (subst (λ (name : List ℕ). WritesTexts (one_text Copied name copied) mid new c.write_lines-2.result) c.as_str-2.ensures.value
     c.write_lines-2.ensures.texts)
 

@@ -40,7 +40,7 @@ returns-clause-texts g c =
     then_texts (one_text MadeTrace terms.trace (trace_text terms disk)) (one_text MadeCalls terms.calls (script_text disk.map)) new
     (subst (λ (n : ℕ). WritesAll (one_text MadeTrace terms.trace (made_trace terms.number terms.device n terms.requests)) old mid)
     c.count.ensures.value c.in_ok-write_trace.ensures.texts)
-    (((λ e. cc), ((λ e. cc), tt)), tt) ((λ e. cc), tt) c.write_made.result
+    (((λ e. cc), tt), tt) c.write_made.result
     (subst (λ (name : List ℕ). WritesTexts (one_text MadeCalls name (script_text disk.map)) mid new c.write_made.result)
     c.as_str.ensures.value (c.write_made.ensures.texts (script_text disk.map) c.made_calls-made.ensures))
 

@@ -1,7 +1,7 @@
 use Rattle.std.proofs.Common.{◌≢◌, refl}
 use Rattle.std.specs.Prelude.{codes}
 use Rattle.std.proofs.lemmas.Result.{err_from_is_err_and}
-use Rattle.fb_desk.specs.declared.desk.Output.TheVariants.{Back, Fore, Note}
+use Rattle.fb_desk.specs.declared.desk.Output.TheVariants.{Back, Fore}
 use Rattle.fb_words.specs.Verdict.{replay_terms}
 use Rattle.fb_inputs.specs.Read.{files_of}
 use Rattle.fb_streams.proofs.Called.{then_result}
@@ -28,8 +28,7 @@ returns-clause-texts g c =
     let told = back_told terms files c.args.run.now in
     then_texts (one_text Fore (codes "-") (fore_told terms files c.args.run.now)) (given_text Back terms.back told)
     (g.D.Desk.seen c.write_given.new.desk) c.in_ok-write_fore.ensures.texts
-    (((λ e. cc), all_given (λ output. Fore ≢ output) Back terms.back told (λ e. cc)), tt)
-    (all_given (λ output. output ≢ Note) Back terms.back told (λ e. cc)) c.write_given.result c.write_given.ensures.texts
+    (all_given (λ output. Fore ≢ output) Back terms.back told (λ e. cc), tt) c.write_given.result c.write_given.ensures.texts
 
 pub returns-clause-calls : goal.returns-clause-calls
 returns-clause-calls g c =

@@ -1,5 +1,5 @@
-use Rattle.std.proofs.Common.{List, ℕ, Option, sym, subst}
-use Rattle.std.specs.Prelude.{Bool, Ok, IfSome, codes, if◌then◌else◌}
+use Rattle.std.proofs.Common.{List, ℕ, Option, ap, sym, subst}
+use Rattle.std.specs.Prelude.{Bool, Ok, IfSome, codes, is_some, if◌then◌else◌}
 use Rattle.fb_report.specs.declared.bytes.Bytes.{Bytes}
 use Rattle.fb_report.specs.Back.{back_lines}
 use Rattle.fb_report.specs.Fore.{fore_lines, fore_text}
@@ -14,7 +14,7 @@ use Rattle.fb_streams.specs.Names.{FileNames, check_file_names}
 use Rattle.fb_top.specs.Untouched.{HoldFilesAlike, HoldsLines, HoldsOwnReports}
 use Rattle.fb_texts.specs.Written.{HoldsTexts, HoldsWhole, given_text}
 use Rattle.fb_top.proofs.Completeness.{complete}
-use Rattle.fb_top.proofs.Printed.{accepted_there, answers_yes, held_lines, prints, told_lines, told_there}
+use Rattle.fb_top.proofs.Printed.{accepted_there, answers_yes, held_lines, prints, told_lines}
 use Rattle.fb_top.proofs.untouched.printed_reports_are_right.Goals as goal
 
 pub returns : goal.returns
@@ -57,9 +57,9 @@ returns c = λ old new other terms asked run replayed asks.
             inputs = record {
               files = files;
               accepts = accepted_there old other (check_file_names asked) files alike accepts;
-              params_told = told_there old other asked.params alike.params;
-              trace_told = told_there old other asked.trace alike.trace;
-              calls_told = told_there old other asked.calls alike.calls;
+              params_told = ap is_some alike.params.2;
+              trace_told = ap is_some alike.trace.2;
+              calls_told = ap is_some alike.calls.2;
               puts_told = tt;
               fore_told = fore_told;
               back_told = back_told;
