@@ -1,5 +1,6 @@
 -- What calls a command makes of its desk.
-use Rattle.std.specs.Prelude.{◌≡◌, ℕ, List, ◌∷◌, ◌++◌, Bool, true, false, Option, Some, None, IfSome, is_some, codes, Result, Ok, Err}
+use Rattle.std.specs.Prelude.{◌≡◌, ◌⊎◌, ℕ, List, [], ◌∷◌, ◌++◌, Bool, true, false, Option, Some, None, IfSome, is_some, codes}
+use Rattle.std.specs.Prelude.{Result, Ok, Err}
 use Rattle.std.specs.List.{AllByRecursion}
 use Rattle.std.specs.Option.{option_map}
 use Rattle.fb_desk.specs.View.{Call, opens, reads, begins, writes}
@@ -23,12 +24,17 @@ pub record Asked : Type 0 where
   pub inputs : Input → Option (List ℕ)
   pub outputs : Output → Option (List ℕ)
 
--- the words ask for this call: an input is opened or an output is begun under its name, or 4,096 bytes are asked for, or bytes are written
+-- the last of these bytes is a line feed
+abbrev pub EndsLine : List ℕ → Type 0
+EndsLine bytes = (front : List ℕ) × (bytes ≡ front ++ 10 ∷ [])
+
+-- the words ask for this call: an input is opened or an output is begun under its name, or 4,096 bytes are asked for, or bytes are
+-- handed over to the end of a line
 abbrev pub IsAsked : Asked → Call → Type 0
 IsAsked asked (opens which name done) = asked.inputs which ≡ Some name
 IsAsked asked (reads which room done) = (is_some (asked.inputs which) ≡ true) × (room ≡ 4096)
 IsAsked asked (begins which name done) = asked.outputs which ≡ Some name
-IsAsked asked (writes which bytes done) = is_some (asked.outputs which) ≡ true
+IsAsked asked (writes which bytes done) = (is_some (asked.outputs which) ≡ true) × EndsLine bytes
 
 -- the files of a run are asked for under these names
 pub record AsksFiles (asked : Asked) (names : FileNames) : Type 0 where

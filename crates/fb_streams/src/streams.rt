@@ -1,7 +1,7 @@
 // Reads inputs whole, and writes outputs whole.
-ghost use Rattle.std.specs.Prelude.{◌≡◌, ◌<◌, ◌≤◌, ◌^◌, Some, true, false, length, is_some, IfOk, OnOk, OnErr, IsErrOf};
+ghost use Rattle.std.specs.Prelude.{◌≡◌, ◌≢◌, ◌<◌, ◌≤◌, ◌^◌, [], Some, true, false, length, is_some, IfOk, OnOk, OnErr, IsErrOf};
 ghost use Rattle.fb_desk.specs.Calls.{Rose, HasCause, ChangesInput, ChangesOutput, behind};
-ghost use Rattle.fb_streams.specs.Called.{Asked, Ends, failed_reading, failed_writing};
+ghost use Rattle.fb_streams.specs.Called.{Asked, Ends, EndsLine, failed_reading, failed_writing};
 ghost use Rattle.fb_streams.specs.Streams.{AppendsFront, IsHeld, IsLonger, IsOpenedAs};
 
 use fb_desk::{Desk, Failed, Input, Output};
@@ -80,11 +80,13 @@ pub fn read_whole<D: Desk>(
     Err(InputError::TooLong)
 }
 
-/// Writes a whole text to an output that was begun.
+/// Writes a whole text to an output that was begun. The text, if it isn't empty, ends with a line feed.
 ///
-/// The error comes where a call of the desk fails; a front of the text has then been written.
+/// Each call is given all that is left of the text. The error comes where a call of the desk fails; a
+/// front of the text has then been written.
 pub fn write_whole<D: Desk>(desk: &mut D, which: Output, text: &[u8]) -> Result<(), Failed>
-    requires { ((D.seen desk.old).outputs which).begun ≡ true }
+    requires begun { ((D.seen desk.old).outputs which).begun ≡ true }
+    requires lines { text.now ≢ [] → EndsLine text.now }
     ensures only { ChangesOutput which (D.seen desk.old) (D.seen desk.new) }
     ensures cause { HasCause ((D.seen desk.old).outputs which).faults ((D.seen desk.new).outputs which).faults result }
     ensures begun { ((D.seen desk.new).outputs which).begun ≡ true }
