@@ -2,6 +2,7 @@
 ghost use Rattle.std.specs.Prelude.{◌≡◌, ℕ, ◌<◌, ◌≤◌, List, Some, length, slice_get, IfOk};
 ghost use Rattle.fb_report.specs.Grammar.{Grammar};
 ghost use Rattle.fb_report.specs.Printed.{IsLine, is_in_place};
+ghost use Rattle.fb_streams.specs.Called.{EndsLine};
 
 use fb_report::{Bytes, back_piece, back_pieces, fore_piece, fore_pieces};
 use fb_rows::Run;
@@ -36,6 +37,7 @@ pub trait Lines {
         requires told { can_be_told self.now }
         requires inside { index < length (lines self.now) }
         ensures value { IfOk result (λ line. slice_get (lines self.now) index ≡ Some line.items) }
+        ensures ends { IfOk result (λ line. EndsLine line.items) }
         ensures form { IfOk result
             (λ line. can_be_read self.now → IsLine (is_in_place (grammar self.now) (length (lines self.now)) index) line.items) };
 }

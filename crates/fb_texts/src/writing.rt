@@ -4,7 +4,7 @@ ghost use Rattle.std.specs.Option.{option_map};
 ghost use Rattle.std.specs.String.{string_bytes};
 ghost use Rattle.fb_desk.specs.Calls.{ChangesOutput};
 ghost use Rattle.fb_report.specs.Printed.{IsReadBack};
-ghost use Rattle.fb_streams.specs.Called.{Asked, Ends};
+ghost use Rattle.fb_streams.specs.Called.{Asked, Ends, EndsLine};
 ghost use Rattle.fb_texts.specs.Ends.{failed_output};
 ghost use Rattle.fb_texts.specs.Written.{WritesTexts, given_text, joined, one_text};
 
@@ -15,7 +15,8 @@ use fb_streams::write_whole;
 use fb_units::NoMemory;
 use std::alloc::Global;
 
-/// Begins an output under a name, and writes to it the text that was made.
+/// Begins an output under a name, and writes to it the text that was made, which ends with a line
+/// feed.
 ///
 /// The error says why: a call that writes failed; or the text was not made, and nothing was begun.
 pub fn write_made<D: Desk>(
@@ -25,6 +26,7 @@ pub fn write_made<D: Desk>(
     made: Result<Vec<u8>, NoMemory>,
 ) -> Result<(), TextsError>
     requires fresh { ((D.seen desk.old).outputs which).begun ≡ false }
+    requires line { IfOk made (λ bytes. EndsLine bytes.items) }
     ensures only { ChangesOutput which (D.seen desk.old) (D.seen desk.new) }
     ensures texts { (text : List ℕ) → IfOk made (λ bytes. bytes.items ≡ text)
         → WritesTexts (one_text which name.now text) (D.seen desk.old) (D.seen desk.new) result }

@@ -1,4 +1,4 @@
-use Rattle.std.proofs.Common.{◌≡◌, ◌∙◌, ap, arith, length, sym, refl, true, false}
+use Rattle.std.proofs.Common.{◌≡◌, ◌∙◌, ap, arith, length, subst, sym, refl, true, false}
 use Rattle.std.specs.Prelude.{Some, is_some, slice_get}
 use Rattle.fb_report.specs.Printed.{IsLine, is_in_place}
 use Rattle.fb_report.proofs.InPlace.{all_in_place, one_line_more}
@@ -8,7 +8,7 @@ use Rattle.fb_texts.specs.Written.{joined}
 use Rattle.fb_texts.proofs.Fronts.{front_of, front_of_none, front_more, holds_more, holds_all, holds_none, rose_since, same_name}
 use Rattle.fb_desk.specs.View.{begins}
 use Rattle.fb_streams.proofs.Called.{one_call, one_failed, then_calls, then_stops}
-use Rattle.fb_streams.specs.Called.{of_output}
+use Rattle.fb_streams.specs.Called.{EndsLine, of_output}
 use Rattle.fb_texts.proofs.writing.write_lines.Goals as goal
 
 pub loop-index-init : goal.loop-index-init
@@ -23,6 +23,9 @@ loop-index-init g c = record {
       (g.L.Lines.lines c.args.lines.now) c.in-Ok.ensures.empty;
   in_place = λ can index line inside got. absurd (omega arith);
 }
+
+pub write_whole-requires-clause-lines : goal.write_whole-requires-clause-lines
+write_whole-requires-clause-lines g c = λ some. subst EndsLine (sym c.as_slice.ensures.value) c.in-Ok-line.ensures.ends
 
 pub returns-in-Err-line : goal.returns-in-Err-line
 returns-in-Err-line g c = record {

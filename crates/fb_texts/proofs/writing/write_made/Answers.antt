@@ -1,4 +1,4 @@
-use Rattle.std.proofs.Common.{ℕ, List, ◌≡◌, ◌∙◌, ap, refl, subst, true, false}
+use Rattle.std.proofs.Common.{ℕ, List, ◌≡◌, ◌∙◌, ap, refl, subst, sym, true, false}
 use Rattle.std.specs.Prelude.{IfOk, is_some}
 use Rattle.fb_streams.specs.Streams.{AppendsFront}
 use Rattle.fb_texts.proofs.Texts.{cut_one, wrote_one}
@@ -7,8 +7,12 @@ use Rattle.fb_texts.proofs.Fronts.{cut_text, front_of_none, whole_text, rose_sin
 use Rattle.fb_desk.specs.Calls.{behind}
 use Rattle.fb_desk.specs.View.{begins}
 use Rattle.fb_streams.proofs.Called.{no_call, one_call, one_failed, then_calls, then_stops}
-use Rattle.fb_streams.specs.Called.{of_output}
+use Rattle.fb_streams.specs.Called.{EndsLine, of_output}
 use Rattle.fb_texts.proofs.writing.write_made.Goals as goal
+
+pub write_whole-requires-clause-lines : goal.write_whole-requires-clause-lines
+write_whole-requires-clause-lines g c = λ some.
+    subst EndsLine (sym c.as_slice.ensures.value) (subst (λ made. IfOk made (λ bytes. EndsLine bytes.items)) c.in-Ok.is c.requires.line)
 
 pub returns-in-Err-clause-texts : goal.returns-in-Err-clause-texts
 returns-in-Err-clause-texts g c = λ text is. (
