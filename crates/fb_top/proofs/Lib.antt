@@ -15,3 +15,4 @@ mod Checking
 mod RightReports
 pub mod Ends
 pub mod Noted
+pub mod LineEnds

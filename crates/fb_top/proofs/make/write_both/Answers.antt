@@ -11,7 +11,13 @@ use Rattle.fb_texts.specs.Ends.{failed_output}
 use Rattle.fb_texts.specs.Written.{StopsTexts, WritesAll, WritesTexts, one_text}
 use Rattle.fb_texts.proofs.Texts.{stopped_sooner, then_texts}
 use Rattle.fb_top.specs.Make.{trace_text}
+use Rattle.fb_texts.proofs.LineEnds.{text_ends}
+use Rattle.fb_top.proofs.LineEnds.{script_ends}
 use Rattle.fb_top.proofs.make.write_both.Goals as goal
+
+pub write_made-requires-clause-line : goal.write_made-requires-clause-line
+write_made-requires-clause-line g c = let map = c.args.disk.now.map in
+    text_ends c.made_calls-made.result (script_text map) (script_ends map) c.made_calls-made.ensures
 
 pub write_trace-requires-clause-some : goal.write_trace-requires-clause-some
 write_trace-requires-clause-some g c =

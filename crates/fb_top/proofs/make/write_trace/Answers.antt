@@ -13,9 +13,15 @@ use Rattle.fb_desk.specs.View.{begins}
 use Rattle.fb_words.specs.Verdict.{make_terms}
 use Rattle.fb_streams.proofs.Called.{one_call, one_failed, then_calls, then_stops}
 use Rattle.fb_streams.specs.Called.{of_output, make_asks}
+use Rattle.fb_streams.specs.Called.{EndsLine}
+use Rattle.fb_top.proofs.LineEnds.{made_line_ends}
 use Rattle.fb_top.proofs.make.write_trace.Given as given
 use Rattle.fb_top.proofs.make.write_trace.Goals as goal
 use Rattle.fb_top.proofs.make.write_trace.Goals.{After-write_whole}
+
+pub write_whole-requires-clause-lines : goal.write_whole-requires-clause-lines
+write_whole-requires-clause-lines g c = λ some.
+    subst EndsLine (sym (c.as_slice.ensures.value ∙ c.in-Ok-next_line.ensures.line)) (made_line_ends c.loop-index.maker)
 
 -- what is written is the next line of the trace
 next_line : (g : given.Over) (c : After-write_whole g)

@@ -1,14 +1,21 @@
-use Rattle.std.proofs.Common.{◌∙◌, inl, refl, rules, true}
+use Rattle.std.proofs.Common.{◌≢◌, ◌∙◌, [], List, ℕ, inl, refl, rules, subst, sym, true}
 use Rattle.std.specs.Prelude.{codes}
 use Rattle.fb_desk.specs.View.{begins}
 use Rattle.fb_desk.specs.declared.desk.Output.TheVariants.{Note}
 use Rattle.fb_streams.proofs.Called.{one_call}
 use Rattle.fb_streams.proofs.Pieces.{output_on}
+use Rattle.fb_streams.specs.Called.{EndsLine}
 use Rattle.fb_texts.proofs.Fronts.{same_name}
 use Rattle.fb_top.specs.Noted.{asks_note}
 use Rattle.fb_top.specs.Notes.{note_of}
+use Rattle.fb_top.proofs.LineEnds.{note_ends}
 use Rattle.fb_top.proofs.Noted.{note_begun, note_made, note_written, rose_on}
 use Rattle.fb_top.proofs.noting.begin_note.Goals as goal
+
+pub write_whole-requires-clause-lines : goal.write_whole-requires-clause-lines
+write_whole-requires-clause-lines g c =
+    subst (λ (text : List ℕ). text ≢ [] → EndsLine text) (sym (c.as_slice.ensures.value ∙ c.in-Ok-note_text.ensures))
+    (note_ends c.args.outcome.now)
 
 pub returns : goal.returns
 returns g c =
