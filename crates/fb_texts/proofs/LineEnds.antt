@@ -1,5 +1,6 @@
 -- Lines that end with a line feed.
-use Rattle.std.proofs.Common.{Global, ℕ, List, [], ◌∷◌, ◌++◌, ◌-◌, length, map, Option, Some, None, Result, refl, sym, ap, subst, ◌≡◌, ◌∙◌, append_assoc, append-nil}
+use Rattle.std.proofs.Common.{Global, ℕ, List, [], ◌∷◌, ◌++◌, ◌-◌, length, map, Option, Some, None, Result, refl}
+use Rattle.std.proofs.Common.{sym, ap, subst, ◌≡◌, ◌∙◌, append_assoc, append-nil}
 use Rattle.std.specs.Prelude.{IfOk, codes, decimal, slice_get}
 use Rattle.std.specs.List.{AllByRecursion, sum_by}
 use Rattle.std.specs.declared.vec.Vec.{Vec}
@@ -14,7 +15,8 @@ use Rattle.fb_report.specs.Lines.{line_of, with_fields}
 use Rattle.fb_report.specs.Shown.{shown}
 use Rattle.fb_report.specs.Fore.{fore_last, fore_line, fore_lines, row_bytes, row_fields}
 use Rattle.fb_report.specs.Lines.{name_text, track_text}
-use Rattle.fb_report.specs.Back.{back_last, back_line, back_lines, digest_text, gap_fields, got_fields, segment_fields, task_fields, task_text}
+use Rattle.fb_report.specs.Back.{back_last, back_line, back_lines, digest_text, gap_fields, got_fields, segment_fields}
+use Rattle.fb_report.specs.Back.{task_fields, task_text}
 use Rattle.fb_bgwrite.specs.Text.{content_of, item_line, spill_fields, spill_last, spill_lines, wrote_fields}
 use Rattle.fb_bgwrite.specs.declared.items.SpillItem.{SpillItem}
 use Rattle.fb_bgwrite.specs.declared.items.SpillItem.TheVariants.{Spill, Wrote}

@@ -1,5 +1,5 @@
 -- Texts that end with a line feed.
-use Rattle.std.proofs.Common.{◌≢◌, ◌++◌, ◌∷◌, [], List, ℕ, min, refl}
+use Rattle.std.proofs.Common.{◌≢◌, ◌++◌, ◌∷◌, [], min, refl}
 use Rattle.std.specs.Prelude.{codes, decimal}
 use Rattle.fb_units.specs.Numbers.{millis_text}
 use Rattle.fb_geometry.specs.Shape.{Shape}
