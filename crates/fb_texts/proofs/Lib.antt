@@ -1,6 +1,6 @@
 pub mod Counted
 pub mod Each
-pub mod Fronts
 pub mod LineEnds
+pub mod Pieces
 pub mod Sections
 pub mod Texts

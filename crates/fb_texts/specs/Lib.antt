@@ -1,3 +1,4 @@
 pub mod Sections
 pub mod Written
 pub mod Ends
+pub mod Writing

@@ -1,5 +1,6 @@
 // Why texts are not all written.
 use fb_desk::Output;
+use fb_units::NoMemory;
 
 /// Why texts are not all written.
 #[derive(Drop)]
@@ -8,4 +9,15 @@ pub enum TextsError {
     WriteFault(Output),
     /// Out of memory.
     NoMemory,
+}
+
+impl From<NoMemory> for TextsError {
+    ghost use Rattle.std.specs.Prelude.{◌≡◌};
+    ghost use Rattle.fb_texts.specs.declared.error.TextsError.TheVariants as faults;
+
+    ghost from_gives = { λ _ e. e ≡ faults.NoMemory };
+
+    fn from(_: NoMemory) -> TextsError {
+        TextsError::NoMemory
+    }
 }

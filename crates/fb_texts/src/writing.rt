@@ -1,12 +1,14 @@
 // Writes texts, whole or line by line.
-ghost use Rattle.std.specs.Prelude.{◌≡◌, ◌≢◌, ℕ, List, Some, false, Err, IfOk, IfSome, OnErr, OnOk};
+ghost use Rattle.std.specs.Prelude.{◌≡◌, ◌≢◌, ℕ, List, [], ◌++◌, Some, true, false, Err, IfOk, IfSome, OnErr, OnOk};
 ghost use Rattle.std.specs.Option.{option_map};
 ghost use Rattle.std.specs.String.{string_bytes};
 ghost use Rattle.fb_desk.specs.Calls.{ChangesOutput};
+ghost use Rattle.fb_desk.specs.View.{DeskView};
 ghost use Rattle.fb_report.specs.Printed.{IsReadBack};
 ghost use Rattle.fb_streams.specs.Called.{Asked, Ends, EndsLine};
 ghost use Rattle.fb_texts.specs.Ends.{failed_output};
 ghost use Rattle.fb_texts.specs.Written.{WritesTexts, given_text, joined, one_text};
+ghost use Rattle.fb_texts.specs.Writing.{HasWritten, Writes};
 
 use crate::TextsError;
 use crate::lines::Lines;
@@ -15,10 +17,38 @@ use fb_streams::write_whole;
 use fb_units::NoMemory;
 use std::alloc::Global;
 
+/// Begins an output under a name, empty. The error comes where the call of the desk fails.
+pub fn begin<D: Desk>(desk: &mut D, which: Output, name: &str) -> Result<(), TextsError>
+    requires fresh { ((D.seen desk.old).outputs which).begun ≡ false }
+    ensures written { Writes which name.now [] (D.seen desk.old) (D.seen desk.new) result }
+    ensures memory { result ≢ Err TextsError.NoMemory }
+{
+    let Ok(()) = desk.begin_output(which, name) else {
+        return Err(TextsError::WriteFault(which));
+    };
+    Ok(())
+}
+
+/// Writes more of a text to an output that was begun, by `write_whole`. The error comes where a call
+/// of the desk fails.
+pub fn write_more<D: Desk>(desk: &mut D, which: Output, more: &[u8]) -> Result<(), TextsError>
+    requires begun { ((D.seen desk.old).outputs which).begun ≡ true }
+    requires lines { more.now ≢ [] → EndsLine more.now }
+    ensures written { (first : DeskView) (name text : List ℕ) → HasWritten which name text first (D.seen desk.old)
+        → Writes which name (text ++ more.now) first (D.seen desk.new) result }
+    ensures memory { result ≢ Err TextsError.NoMemory }
+{
+    match write_whole(desk, which, more) {
+        Ok(()) => Ok(()),
+        Err(Failed) => Err(TextsError::WriteFault(which)),
+    }
+}
+
 /// Begins an output under a name, and writes to it the text that was made, which ends with a line
 /// feed.
 ///
 /// The error says why: a call that writes failed; or the text was not made, and nothing was begun.
+#[tactic(auto, using(crate::proofs::Pieces::never_begun, crate::proofs::Pieces::stops_within, crate::proofs::Pieces::writes_one))]
 pub fn write_made<D: Desk>(
     desk: &mut D,
     which: Output,
@@ -35,23 +65,15 @@ pub fn write_made<D: Desk>(
     ensures memory { OnOk made (result ≢ Err TextsError.NoMemory) }
     ensures unmade { OnErr made ((result ≡ Err TextsError.NoMemory) × (D.seen desk.new ≡ D.seen desk.old)) }
 {
-    let text = match made {
-        Ok(text) => text,
-        Err(NoMemory) => return Err(TextsError::NoMemory),
-    };
-    match desk.begin_output(which, name) {
-        Ok(()) => {}
-        Err(Failed) => return Err(TextsError::WriteFault(which)),
-    }
-    match write_whole(desk, which, text.as_slice()) {
-        Ok(()) => Ok(()),
-        Err(Failed) => Err(TextsError::WriteFault(which)),
-    }
+    let text = made?;
+    begin(desk, which, name)?;
+    write_more(desk, which, text.as_slice())
 }
 
 /// Begins an output under a name, and writes the lines of a text to it, one by one.
 ///
 /// The error says why: a call that writes failed, or memory ran out.
+#[tactic(auto, using(crate::proofs::Pieces::line_stops, crate::proofs::Pieces::lines_stop, crate::proofs::Pieces::stops_within))]
 pub fn write_lines<D: Desk, L: Lines>(
     alloc: Global,
     desk: &mut D,
@@ -67,19 +89,10 @@ pub fn write_lines<D: Desk, L: Lines>(
         → Ends failed_output asked result (D.seen desk.old).calls (D.seen desk.new).calls }
     ensures read { OnOk result (L.can_be_read lines.now → IsReadBack (L.grammar lines.now) (L.lines lines.now)) }
 {
-    match desk.begin_output(which, name) {
-        Ok(()) => {}
-        Err(Failed) => return Err(TextsError::WriteFault(which)),
-    }
+    begin(desk, which, name)?;
     for index in 0..lines.count() {
-        let line = match lines.line(alloc, index) {
-            Ok(line) => line,
-            Err(NoMemory) => return Err(TextsError::NoMemory),
-        };
-        match write_whole(desk, which, line.as_slice()) {
-            Ok(()) => {}
-            Err(Failed) => return Err(TextsError::WriteFault(which)),
-        }
+        let line = lines.line(alloc, index)?;
+        write_more(desk, which, line.as_slice())?;
     }
     Ok(())
 }
