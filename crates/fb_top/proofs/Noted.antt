@@ -9,7 +9,7 @@ use Rattle.fb_desk.specs.declared.desk.Output.TheVariants.{Note}
 use Rattle.fb_streams.specs.Called.{AreServed, Ends, Told, failed_writing, of_output}
 use Rattle.fb_streams.specs.Streams.{AppendsFront}
 use Rattle.fb_streams.proofs.Called.{one_call, one_failed, then_calls, then_stops}
-use Rattle.fb_texts.proofs.Fronts.{rose_since}
+use Rattle.fb_texts.proofs.Pieces.{rose_since}
 use Rattle.fb_top.specs.Noted.{IsNote, MakesNote, asks_note}
 
 whole_note : (first last : OutputView) (old new : Option (List ℕ)) (text line : List ℕ) → IfSome old (λ bytes. bytes ≡ []) → text ≡ line

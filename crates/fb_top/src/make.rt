@@ -18,13 +18,11 @@ ghost use Rattle.fb_streams.specs.Called.{make_asks, Ends};
 ghost use Rattle.fb_top.specs.Ends.{EndsAs};
 
 use crate::Outcome;
-use fb_desk::{Desk, Failed, Output};
+use fb_desk::{Desk, Output};
 use fb_inputs::read_disk;
 use fb_maker::{Maker, made_calls, made_scripts_are_read, made_traces_are_read};
 use fb_service::Disk;
-use fb_streams::write_whole;
-use fb_texts::{TextsError, write_made};
-use fb_units::NoMemory;
+use fb_texts::{TextsError, begin, write_made, write_more};
 use fb_words::MakeWords;
 use std::alloc::Global;
 
@@ -88,6 +86,7 @@ fn write_both<D: Desk>(
 }
 
 // Writes the trace for a disk with this number of sectors, line by line.
+#[tactic(auto, using(fb_texts::proofs::Pieces::lines_stop, fb_texts::proofs::Pieces::stops_within))]
 fn write_trace<D: Desk>(
     alloc: Global,
     desk: &mut D,
@@ -103,20 +102,11 @@ fn write_trace<D: Desk>(
         (made_trace words.now.number words.now.device sectors words.now.requests)) (D.seen desk.old) (D.seen desk.new) result }
     ensures calls { Ends failed_output (make_asks (make_terms words.now)) result (D.seen desk.old).calls (D.seen desk.new).calls }
 {
-    match desk.begin_output(Output::MadeTrace, words.trace.as_str()) {
-        Ok(()) => {}
-        Err(Failed) => return Err(TextsError::WriteFault(Output::MadeTrace)),
-    }
+    begin(desk, Output::MadeTrace, words.trace.as_str())?;
     let mut maker = Maker::new(words.number, words.device, sectors);
     for index in 0..words.requests {
-        let line = match maker.next_line(alloc) {
-            Ok(line) => line,
-            Err(NoMemory) => return Err(TextsError::NoMemory),
-        };
-        match write_whole(desk, Output::MadeTrace, line.as_slice()) {
-            Ok(()) => {}
-            Err(Failed) => return Err(TextsError::WriteFault(Output::MadeTrace)),
-        }
+        let line = maker.next_line(alloc)?;
+        write_more(desk, Output::MadeTrace, line.as_slice())?;
     }
     Ok(())
 }

@@ -5,7 +5,7 @@ use Rattle.fb_desk.specs.declared.desk.Output.TheVariants.{Note}
 use Rattle.fb_streams.proofs.Called.{one_call}
 use Rattle.fb_streams.proofs.Pieces.{output_on}
 use Rattle.fb_streams.specs.Called.{EndsLine}
-use Rattle.fb_texts.proofs.Fronts.{same_name}
+use Rattle.fb_texts.proofs.Pieces.{same_name}
 use Rattle.fb_top.specs.Noted.{asks_note}
 use Rattle.fb_top.specs.Notes.{note_of}
 use Rattle.fb_top.proofs.LineEnds.{note_ends}
