@@ -1,23 +1,17 @@
 -- How due lines begin and end.
-use Rattle.std.proofs.Common.{◌≡◌, ℕ, zero, suc, ◌-◌, ◌<◌, ◌%◌, ◌/◌, List, [], ◌∷◌, ◌++◌, length, take, false, refl, ap, subst, ◌∙◌}
-use Rattle.std.proofs.Common.{arith, inl, inr, length-append}
-use Rattle.std.specs.Prelude.{◌==◌, nat_lt, decimal, codes}
-use Rattle.std.specs.List.{sum_by}
-use Rattle.std.proofs.lemmas.List.{take-append-le, take_all}
+use Rattle.fb_check.proofs.Words.{◌≡◌, ℕ, zero, suc, ◌-◌, ◌<◌, List, [], ◌∷◌, ◌++◌, length, take, false, refl, ap, subst, ◌∙◌, arith, inl}
+use Rattle.fb_check.proofs.Words.{inr, length-append, ◌==◌, decimal, codes, sum_by, take-append-le, take_all, cases_Bool, ForeRow, BackRow}
+use Rattle.fb_check.proofs.Words.{Seal, Bytes, fore_line, back_line, ended, BeginsLikeEnd}
+use Rattle.std.proofs.Common.{◌%◌, ◌/◌}
+use Rattle.std.specs.Prelude.{nat_lt}
 use Rattle.std.specs.Fmt.{digits, digits_onto, digit_glyph}
-use Rattle.std.proofs.lemmas.Bool.{cases_Bool}
 use Rattle.fb_units.specs.declared.types.Name.{Name}
 use Rattle.fb_units.specs.declared.types.Name.TheVariants.{Traced, Promoted}
-use Rattle.fb_rows.specs.declared.fore.ForeRow.{ForeRow}
-use Rattle.fb_rows.specs.declared.back.BackRow.{BackRow}
-use Rattle.fb_rows.specs.declared.back.BackRow.TheVariants.{Gap, Idle, Got, Bad, Seal, Segment, Complete, Task}
-use Rattle.fb_report.specs.declared.bytes.Bytes.{Bytes}
+use Rattle.fb_rows.specs.declared.back.BackRow.TheVariants.{Gap, Idle, Got, Bad, Segment, Complete, Task}
 use Rattle.fb_report.specs.Lines.{with_fields, line_of, name_text, track_text}
-use Rattle.fb_report.specs.Fore.{fore_line, row_fields, row_bytes}
+use Rattle.fb_report.specs.Fore.{row_fields, row_bytes}
 use Rattle.fb_report.specs.Shown.{shown}
-use Rattle.fb_report.specs.Back.{back_line, gap_fields, got_fields, segment_fields, task_fields, task_text, digest_text}
-use Rattle.fb_report.specs.Grammar.{ended}
-use Rattle.fb_report.specs.Reading.{BeginsLikeEnd}
+use Rattle.fb_report.specs.Back.{gap_fields, got_fields, segment_fields, task_fields, task_text, digest_text}
 
 -- ---- line feeds
 

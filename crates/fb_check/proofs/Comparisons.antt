@@ -1,21 +1,17 @@
 -- Lists of lines, of which the first ones were compared.
-use Rattle.std.proofs.Common.{◌≡◌, ℕ, ◌+◌, ◌≤◌, List, [], ◌∷◌, ◌++◌, length, map, take, drop, refl, ap, sym, subst, ◌∙◌, arith, inl}
-use Rattle.std.proofs.Common.{inr, append_assoc, length-append}
-use Rattle.std.specs.Prelude.{true, is_some, Option, Some, None, slice_get, option_map}
-use Rattle.std.proofs.lemmas.List.{map-append, length-map, take-append-le, take-append-drop, take_all}
+use Rattle.fb_check.proofs.Words.{◌≡◌, ℕ, ◌+◌, ◌≤◌, List, [], ◌∷◌, ◌++◌, length, map, take, drop, refl, ap, sym, subst, ◌∙◌, arith, inl}
+use Rattle.fb_check.proofs.Words.{inr, append_assoc, length-append, Option, Some, None, slice_get, map-append, length-map, take-append-le}
+use Rattle.fb_check.proofs.Words.{take_all, LineFields, ended, spelled, BeginsLikeEnd, Comparison, Rule, Mismatch, lines_of, IsMismatch}
+use Rattle.fb_check.proofs.Words.{CanCompare, HasComparedOne, SoFar}
+use Rattle.std.specs.Prelude.{true, is_some, option_map}
+use Rattle.std.proofs.lemmas.List.{take-append-drop}
 use Rattle.std.proofs.lemmas.Bool.{cases_lt}
 use Rattle.std.proofs.lemmas.Option.{slice_get-map, slice_get_within}
 use Rattle.fb_units.proofs.Lists.{get_right, take_at, append_at}
 use Rattle.fb_desk.specs.declared.desk.Input.{Input}
-use Rattle.fb_report.specs.Grammar.{LineFields, ended, spelled}
-use Rattle.fb_report.specs.Reading.{BeginsLikeEnd, EndsOnce}
-use Rattle.fb_check.specs.declared.comparing.Comparison.{Comparison}
+use Rattle.fb_report.specs.Reading.{EndsOnce}
 use Rattle.fb_check.specs.declared.lines.PrintedLines.{PrintedLines}
-use Rattle.fb_check.specs.declared.verdict.Rule.{Rule}
-use Rattle.fb_check.specs.declared.verdict.Mismatch.{Mismatch}
-use Rattle.fb_check.specs.Printed.{lines_of}
-use Rattle.fb_check.specs.Verdict.{IsMismatch}
-use Rattle.fb_check.specs.Comparing.{CanCompare, IsDue, NamesLine, NextIs, OneMore, HasComparedOne, SoFar, HasCompared}
+use Rattle.fb_check.specs.Comparing.{IsDue, NamesLine, NextIs, OneMore, HasCompared}
 
 -- ---- a mismatch
 

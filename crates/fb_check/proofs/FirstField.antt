@@ -1,11 +1,8 @@
 -- The first field in which two lines differ.
-use Rattle.std.proofs.Common.{◌≡◌, ◌≢◌, ℕ, suc, ◌+◌, ◌≤◌, List, [], ◌∷◌, length, true≢false, refl, ap, sym, subst, ◌∙◌, arith, inl, inr}
-use Rattle.std.specs.List.{zip, prefix_len, join_with_byte}
-use Rattle.std.specs.Str.{bytes_eq}
-use Rattle.std.proofs.lemmas.Bool.{cases_Bool}
-use Rattle.std.proofs.lemmas.List.Splits.{join_with_byte-slice_split}
-use Rattle.std.proofs.lemmas.Slice.Eq.{bytes_eq-Decides}
-use Rattle.fb_report.specs.Grammar.{LineFields, report_fields}
+use Rattle.fb_check.proofs.Words.{◌≡◌, ◌≢◌, ℕ, suc, ◌+◌, ◌≤◌, List, [], ◌∷◌, length, true≢false, refl, ap, sym, subst, ◌∙◌, arith, inl}
+use Rattle.fb_check.proofs.Words.{inr, zip, join_with_byte, bytes_eq, cases_Bool, join_with_byte-slice_split, bytes_eq-Decides, LineFields}
+use Rattle.fb_check.proofs.Words.{report_fields}
+use Rattle.std.specs.List.{prefix_len}
 use Rattle.fb_check.specs.Verdict.{DifferFirstAt}
 
 -- how many fields at the front are the same

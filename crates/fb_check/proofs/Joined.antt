@@ -1,10 +1,8 @@
 -- A text against fields with a space between each two.
-use Rattle.std.proofs.Common.{◌≡◌, ◌≢◌, ℕ, ◌+◌, ◌≤◌, List, [], ◌∷◌, ◌++◌, length, drop, ap, sym, ◌∙◌, append-nil}
-use Rattle.std.specs.Prelude.{Some, slice_get}
-use Rattle.std.specs.List.{flat_map, join_with_byte}
-use Rattle.std.proofs.lemmas.List.{append_cancel_left, drop_all}
+use Rattle.fb_check.proofs.Words.{◌≡◌, ◌≢◌, ℕ, ◌+◌, ◌≤◌, List, [], ◌∷◌, ◌++◌, length, drop, ap, sym, ◌∙◌, append-nil, Some, slice_get}
+use Rattle.fb_check.proofs.Words.{flat_map, join_with_byte, append_cancel_left, LineFields}
+use Rattle.std.proofs.lemmas.List.{drop_all}
 use Rattle.fb_units.proofs.Lists.{drop_at}
-use Rattle.fb_report.specs.Grammar.{LineFields}
 
 -- fields, each behind a space
 abbrev pub spaced : LineFields → List ℕ

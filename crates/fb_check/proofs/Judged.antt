@@ -1,36 +1,26 @@
 -- What was judged so far, from one decision to the next and at the end.
-use Rattle.std.proofs.Common.{◌≡◌, ℕ, suc, ◌+◌, ◌-◌, ◌<◌, List, [], ◌∷◌, ◌++◌, Bool, true, false, length, map, replicate, refl, ap, sym}
-use Rattle.std.proofs.Common.{subst, ◌∙◌, arith, append_assoc, length-append, Some, None, inl, inr}
-use Rattle.std.specs.Prelude.{Option}
-use Rattle.std.specs.List.{AllByRecursion}
-use Rattle.std.proofs.lemmas.List.{map-append, length-map}
+use Rattle.fb_check.proofs.Words.{◌≡◌, ℕ, suc, ◌+◌, ◌-◌, ◌<◌, List, [], ◌∷◌, ◌++◌, Bool, true, false, length, map, refl, ap, sym, subst}
+use Rattle.fb_check.proofs.Words.{◌∙◌, arith, append_assoc, length-append, inl, inr, Option, AllByRecursion, map-append, length-map}
+use Rattle.fb_check.proofs.Words.{HasTaskBelow, ForeRow, BackRow, Inputs, medium_of, decisions, Step, decision_in, history, step_rows}
+use Rattle.fb_check.proofs.Words.{HasMade, decisions_left, Bytes, fore_line, back_line, LineFields, spelled, lines_of, Comparison, Rule}
+use Rattle.fb_check.proofs.Words.{Foreground, Mismatch, HasJudged, IsMismatch, IsVerdict, CanCompare, HasComparedOne, SoFar}
+use Rattle.fb_check.proofs.Words.{HasComparedFore, HasComparedBack}
+use Rattle.std.proofs.Common.{replicate}
+use Rattle.std.proofs.Common.{Some, None}
 use Rattle.fb_script.specs.Allowed as allowed
 use Rattle.fb_desk.specs.declared.desk.Input.TheVariants.{BackReport}
-use Rattle.fb_rows.specs.Tasks.{HasTaskBelow}
-use Rattle.fb_rows.specs.declared.fore.ForeRow.{ForeRow}
-use Rattle.fb_rows.specs.declared.back.BackRow.{BackRow}
 use Rattle.fb_rows.specs.declared.run.Run.{Run}
-use Rattle.fb_model.specs.Inputs.{Inputs}
-use Rattle.fb_model.specs.Content.{medium_of}
-use Rattle.fb_model.specs.Decisions.{decisions, run_end}
-use Rattle.fb_model.specs.Steps.{Step, decision_in, decisions_in, history, step_rows, task_rows}
+use Rattle.fb_model.specs.Decisions.{run_end}
+use Rattle.fb_model.specs.Steps.{decisions_in, task_rows}
 use Rattle.fb_model.specs.FullRun.{IsFull}
 use Rattle.fb_decide.specs.RunState.{RunState}
-use Rattle.fb_decide.specs.Making.{fore_row_of, decisions_by, rest_of, HasMade, HasMadeOne, decisions_left}
-use Rattle.fb_report.specs.declared.bytes.Bytes.{Bytes}
-use Rattle.fb_report.specs.Fore.{fore_first, fore_line, fore_last, fore_lines}
-use Rattle.fb_report.specs.Back.{back_first, back_line, back_last, back_lines}
-use Rattle.fb_report.specs.Grammar.{LineFields, spelled}
-use Rattle.fb_check.specs.Printed.{lines_of}
-use Rattle.fb_check.specs.declared.comparing.Comparison.{Comparison}
-use Rattle.fb_check.specs.declared.verdict.Rule.{Rule}
-use Rattle.fb_check.specs.declared.verdict.Rule.TheVariants.{Foreground, Timeline, End}
-use Rattle.fb_check.specs.declared.verdict.Mismatch.{Mismatch}
+use Rattle.fb_decide.specs.Making.{fore_row_of, decisions_by, rest_of, HasMadeOne}
+use Rattle.fb_report.specs.Fore.{fore_first, fore_last, fore_lines}
+use Rattle.fb_report.specs.Back.{back_first, back_last, back_lines}
+use Rattle.fb_check.specs.declared.verdict.Rule.TheVariants.{Timeline, End}
 use Rattle.fb_check.specs.declared.verdict.Verdict.TheVariants.{Yes, No}
 use Rattle.fb_decide.specs.FullRuns.{AreRowsOf, DecisionsMakeARun}
-use Rattle.fb_check.specs.Judged.{HasJudged}
-use Rattle.fb_check.specs.Verdict.{IsMismatch, Reports, back_rule, fore_rules, back_rules, HasForeLines, IsVerdict}
-use Rattle.fb_check.specs.Comparing.{CanCompare, HasComparedOne, SoFar, HasComparedFore, HasComparedBack}
+use Rattle.fb_check.specs.Verdict.{Reports, back_rule, fore_rules, back_rules, HasForeLines}
 use Rattle.fb_check.proofs.Comparisons.{still_wrong, one_line, complete}
 
 -- ---- lines and rules of a whole report

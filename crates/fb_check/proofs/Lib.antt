@@ -1,3 +1,4 @@
+pub mod Words
 pub mod FirstField
 pub mod Joined
 pub mod Comparisons

@@ -1,31 +1,25 @@
 -- What a history has registered: blocks that have sectors, and for a backup those of one range.
-use Rattle.std.proofs.Common.{◌≡◌, ℕ, zero, suc, ◌≤◌, ◌==◌, List, [], ◌∷◌, ◌++◌, Bool, true, false, inl, inr, length, length-append}
-use Rattle.std.proofs.Common.{append-nil, refl, ap, sym, ◌∙◌, subst, arith}
-use Rattle.std.specs.Prelude.{◌&&◌}
+use Rattle.fb_check.proofs.Words.{◌≡◌, ℕ, zero, suc, ◌≤◌, List, [], ◌∷◌, ◌++◌, Bool, true, false, inl, inr, length, length-append}
+use Rattle.fb_check.proofs.Words.{append-nil, refl, ap, sym, ◌∙◌, subst, arith, ◌&&◌, cases_Bool, Shape, Cut, cutting, Action, Open}
+use Rattle.fb_check.proofs.Words.{is_backup, Block, Inputs, IsAccepted, Past, terms_of, blocks_of, numbered}
+use Rattle.std.proofs.Common.{◌==◌}
 use Rattle.std.specs.List.{best_of, slice_index_or}
 use Rattle.std.proofs.Math.Bool.{or-true}
-use Rattle.std.proofs.lemmas.Bool.{cases_Bool, eqb-true, ne_eqb, or_parts, true≢false}
+use Rattle.std.proofs.lemmas.Bool.{eqb-true, ne_eqb, or_parts, true≢false}
 use Rattle.std.proofs.lemmas.List.Elements.{filter-append}
 use Rattle.std.proofs.lemmas.List.Folds.{list_any-append}
 use Rattle.fb_units.proofs.Comparing.{same_number}
 use Rattle.fb_tasks.proofs.ChoiceSteps.{no_backup}
-use Rattle.fb_geometry.specs.Shape.{Shape}
 use Rattle.fb_geometry.specs.Places.{places}
-use Rattle.fb_sectormap.specs.declared.cut.Cut.{Cut}
-use Rattle.fb_sectormap.specs.Cutting.{cutting}
-use Rattle.fb_script.specs.declared.call.Action.{Action}
-use Rattle.fb_script.specs.declared.call.Action.TheVariants.{Open, Want}
+use Rattle.fb_script.specs.declared.call.Action.TheVariants.{Want}
 use Rattle.fb_script.specs.declared.call.Call.{Call}
 use Rattle.fb_script.specs.declared.call.Kind.TheVariants.{Plain}
 use Rattle.fb_script.specs.Allowed.{Terms, MayAsk, has_want, is_want}
 use Rattle.fb_script.specs.Blocks.{live_cuts}
-use Rattle.fb_script.specs.Sessions.{is_backup, is_clean}
-use Rattle.fb_wanted.specs.declared.block.Block.{Block}
-use Rattle.fb_model.specs.Inputs.{Inputs}
-use Rattle.fb_model.specs.Accepted.{IsAccepted}
-use Rattle.fb_model.specs.History.{Past, calls_of, opened_by, tasks, terms_of, registered, blocks_of}
+use Rattle.fb_script.specs.Sessions.{is_clean}
+use Rattle.fb_model.specs.History.{calls_of, opened_by, tasks, registered}
 use Rattle.fb_model.specs.Completion.{view}
-use Rattle.fb_model.specs.Segments.{numbered, is_better}
+use Rattle.fb_model.specs.Segments.{is_better}
 use Rattle.fb_model.specs.Steps.{blocks_by, take_call}
 use Rattle.fb_model.proofs.Events.{ChoiceKeeps}
 use Rattle.fb_model.proofs.Histories.{EventsKeep, HoldsSoFar}

@@ -1,15 +1,12 @@
 -- The tasks of a script that was read have names.
-use Rattle.std.proofs.Common.{◌≡◌, ℕ, ◌+◌, List, [], ◌∷◌, true, length, Ok, subst}
-use Rattle.std.specs.Prelude.{not, ◌&&◌}
-use Rattle.std.proofs.lemmas.Bool.{and_parts, not-false}
-use Rattle.fb_units.proofs.Lists.{all_append, same_Ok}
+use Rattle.fb_check.proofs.Words.{◌≡◌, ℕ, ◌+◌, List, [], ◌∷◌, true, length, subst, not, ◌&&◌, and_parts, all_append, Shape, Action, Open}
+use Rattle.std.proofs.Common.{Ok}
+use Rattle.std.proofs.lemmas.Bool.{not-false}
+use Rattle.fb_units.proofs.Lists.{same_Ok}
 use Rattle.fb_units.proofs.Judged.{both_ok, step_ok}
 use Rattle.fb_units.specs.Judging.{or_refuse}
 use Rattle.fb_units.specs.Lines.{lines_of, fields_of}
 use Rattle.fb_units.specs.Numbers.{millis_of}
-use Rattle.fb_geometry.specs.Shape.{Shape}
-use Rattle.fb_script.specs.declared.call.Action.{Action}
-use Rattle.fb_script.specs.declared.call.Action.TheVariants.{Open}
 use Rattle.fb_calls.specs.declared.fault.CallsReason.TheVariants.{BadLine, BadTime}
 use Rattle.fb_script.specs.Names.{is_name}
 use Rattle.fb_calls.specs.Words.{verb_of}

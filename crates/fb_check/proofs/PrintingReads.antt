@@ -1,19 +1,16 @@
 -- Each read has a sector.
-use Rattle.std.proofs.Common.{◌≡◌, ℕ, zero, suc, ◌<◌, List, [], ◌∷◌, length, sym, subst, arith}
+use Rattle.fb_check.proofs.Words.{◌≡◌, ℕ, zero, suc, ◌<◌, List, [], ◌∷◌, length, sym, subst, arith, AllByRecursion, length-map, Content}
+use Rattle.fb_check.proofs.Words.{Inputs, IsAccepted, Medium, medium_of, content, decisions}
 use Rattle.std.specs.Prelude.{Bool, map}
-use Rattle.std.specs.List.{AllByRecursion}
-use Rattle.std.proofs.lemmas.List.{length-map}
 use Rattle.fb_units.specs.declared.types.Track.{Track}
 use Rattle.fb_units.proofs.Each.{all_map}
 use Rattle.fb_service.specs.declared.disk.Disk.{Disk}
 use Rattle.fb_service.specs.declared.passage.Passage.{Passage}
 use Rattle.fb_service.specs.Service.{passages}
-use Rattle.fb_store.specs.declared.content.Content.{Content}
 use Rattle.fb_model.specs.PlainReplay.{Served, service, finish, last_track, first_track}
-use Rattle.fb_model.specs.Inputs.{Inputs, served}
-use Rattle.fb_model.specs.Accepted.{IsAccepted}
-use Rattle.fb_model.specs.Content.{Medium, medium_of, content, fore_row, fore_rows}
-use Rattle.fb_model.specs.Decisions.{Decision, serves, idles, ends, decisions}
+use Rattle.fb_model.specs.Inputs.{served}
+use Rattle.fb_model.specs.Content.{fore_row, fore_rows}
+use Rattle.fb_model.specs.Decisions.{Decision, serves, idles, ends}
 use Rattle.fb_model.proofs.Passages.{LiesOnDisk, requests_lie}
 use Rattle.fb_model.proofs.Chain.{Follow, services, decisions_follow}
 use Rattle.fb_report.specs.Printed.{ReadsSectors}

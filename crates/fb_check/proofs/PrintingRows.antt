@@ -1,30 +1,23 @@
 -- Each delivery of a full run has a sector, and each sealed image fewer than 2^64.
-use Rattle.std.proofs.Common.{◌≡◌, ℕ, List, [], ◌∷◌, true, sym, subst, arith}
-use Rattle.std.specs.Prelude.{not, filter, map}
-use Rattle.std.specs.List.{AllByRecursion, flat_map}
-use Rattle.std.proofs.lemmas.Bool.{and_parts}
-use Rattle.fb_units.proofs.Lists.{all_append, all_weaker}
-use Rattle.fb_script.specs.Sessions.{is_backup}
-use Rattle.fb_wanted.specs.declared.block.Block.{Block}
+use Rattle.fb_check.proofs.Words.{◌≡◌, ℕ, List, [], ◌∷◌, true, sym, subst, arith, not, AllByRecursion, flat_map, and_parts, all_append}
+use Rattle.fb_check.proofs.Words.{is_backup, Block, Inputs, IsAccepted, Medium, medium_of, contents_at, Past, terms_of, blocks_of, Step}
+use Rattle.fb_check.proofs.Words.{decision_in, step_rows, history, Seal}
+use Rattle.std.specs.Prelude.{filter, map}
+use Rattle.fb_units.proofs.Lists.{all_weaker}
 use Rattle.fb_wanted.specs.States.{is_delivered}
 use Rattle.fb_rows.specs.declared.back.DeliveryRow.{DeliveryRow}
-use Rattle.fb_model.specs.Inputs.{Inputs}
-use Rattle.fb_model.specs.Accepted.{IsAccepted}
-use Rattle.fb_model.specs.Content.{Medium, medium_of, contents_at}
 use Rattle.fb_model.specs.Deliveries.{due}
 use Rattle.fb_model.specs.Decisions.{instant_of}
-use Rattle.fb_model.specs.History.{Past, terms_of, blocks_of, wanted, is_sealed, is_open_backup}
+use Rattle.fb_model.specs.History.{wanted, is_sealed, is_open_backup}
 use Rattle.fb_model.specs.Completion.{work}
 use Rattle.fb_model.specs.Images.{image}
-use Rattle.fb_model.specs.Steps.{Step, decision_in, chosen_past, past_after, AtEach}
-use Rattle.fb_model.specs.Steps.{step_rows, history}
+use Rattle.fb_model.specs.Steps.{chosen_past, past_after, AtEach}
 use Rattle.fb_model.specs.SoundRun.{IsTested}
 use Rattle.fb_model.specs.FullRun.{IsAllDelivered}
 use Rattle.fb_model.proofs.Due.{HasBytes, IsDueRow, due_block, due_bytes, due_true, wanted_all}
 use Rattle.fb_model.proofs.Cuts.{HasSector}
 use Rattle.fb_model.proofs.EachRow.{RowsHave, AnyEnds, any_linked, step_has, steps_have, tasks_have}
 use Rattle.fb_model.proofs.Histories.{chosen_holds, after_holds}
-use Rattle.fb_rows.specs.declared.back.BackRow.TheVariants.{Seal}
 use Rattle.fb_report.specs.Printed.{HasSectors, CountsSectors}
 use Rattle.fb_check.specs.Printing.{RunsCanBePrinted}
 use Rattle.fb_check.proofs.PrintingSectors.{runs_have, contents_have, some_have, blocks_have}

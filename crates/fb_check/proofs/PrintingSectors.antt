@@ -1,21 +1,15 @@
 -- How many sectors runs, cuts and blocks have.
-use Rattle.std.proofs.Common.{◌≡◌, ℕ, zero, suc, ◌+◌, ◌≤◌, ◌==◌, List, [], ◌∷◌, false, inl, inr, length, length-append, filter}
-use Rattle.std.proofs.Common.{refl, arith}
-use Rattle.std.specs.Prelude.{Bool, ◌&&◌, not}
-use Rattle.std.specs.List.{flat_map, sum_by}
-use Rattle.std.proofs.lemmas.Bool.{cases_Bool}
+use Rattle.fb_check.proofs.Words.{◌≡◌, ℕ, zero, suc, ◌+◌, ◌≤◌, List, [], ◌∷◌, false, inl, inr, length, length-append, refl, arith, ◌&&◌}
+use Rattle.fb_check.proofs.Words.{not, flat_map, sum_by, cases_Bool, Shape, Cut, cutting, Content, Block, Medium, content, contents_at}
+use Rattle.fb_check.proofs.Words.{numbered}
+use Rattle.std.proofs.Common.{◌==◌, filter}
+use Rattle.std.specs.Prelude.{Bool}
 use Rattle.std.proofs.lemmas.List.Sums.{sum_by-cons}
 use Rattle.std.proofs.lemmas.List.Filters.{sum_by-filter_both}
 use Rattle.std.proofs.lemmas.List.FromFn.{length-map-range_with_len}
-use Rattle.fb_geometry.specs.Shape.{Shape}
-use Rattle.fb_sectormap.specs.declared.cut.Cut.{Cut}
-use Rattle.fb_sectormap.specs.Cutting.{cut_of, cutting, with_sector, is_cut_before}
-use Rattle.fb_store.specs.declared.content.Content.{Content}
+use Rattle.fb_sectormap.specs.Cutting.{cut_of, with_sector, is_cut_before}
 use Rattle.fb_store.specs.declared.content.ContentRun.{ContentRun}
 use Rattle.fb_store.specs.Runs.{runs_of, with_content, same_content}
-use Rattle.fb_wanted.specs.declared.block.Block.{Block}
-use Rattle.fb_model.specs.Content.{Medium, content, contents_at}
-use Rattle.fb_model.specs.Segments.{numbered}
 
 -- ---- runs
 

@@ -1,19 +1,10 @@
 -- Reads that are put behind those that arrive by their instants, one after another.
-use Rattle.std.proofs.Common.{◌≡◌, ℕ, zero, suc, ◌+◌, ◌-◌, ◌≤◌, ◌<◌, List, [], ◌∷◌, ◌++◌, length, take, take_all, drop, get_or, map, refl}
-use Rattle.std.proofs.Common.{sym, ap, ◌∙◌, arith, subst, append_assoc}
-use Rattle.std.specs.Prelude.{slice_get, IfSome}
-use Rattle.std.specs.List.{AllByRecursion, fold}
-use Rattle.std.proofs.lemmas.List.{drop_more, drop_all, length-drop}
-use Rattle.fb_units.specs.declared.types.Request.{Request}
-use Rattle.fb_units.specs.Rising.{IsRising}
-use Rattle.fb_units.proofs.Lists.{all_append, all_weaker}
-use Rattle.fb_units.proofs.Each.{all_any, all_unmapped}
-use Rattle.fb_units.proofs.Comparing.{after_is, by_is}
-use Rattle.fb_script.specs.declared.call.Call.{Call}
-use Rattle.fb_script.specs.declared.call.Action.{Action}
-use Rattle.fb_script.specs.declared.call.Action.TheVariants.{Promote}
+use Rattle.fb_decide.proofs.Words.{◌≡◌, ℕ, zero, suc, ◌+◌, ◌-◌, ◌≤◌, ◌<◌, List, [], ◌∷◌, ◌++◌, length, take, take_all, drop, get_or, map}
+use Rattle.fb_decide.proofs.Words.{refl, sym, ap, ◌∙◌, arith, subst, append_assoc, slice_get, IfSome, AllByRecursion, fold, drop_more}
+use Rattle.fb_decide.proofs.Words.{drop_all, Request, IsRising, all_append, all_weaker, all_any, all_unmapped, after_is, by_is, Call}
+use Rattle.fb_decide.proofs.Words.{Action, Promote, behind}
+use Rattle.std.proofs.lemmas.List.{length-drop}
 use Rattle.fb_script.specs.Promoted.{read_of, promoted_from, promoted}
-use Rattle.fb_model.specs.Foreground.{behind}
 
 -- a read goes behind all of these
 pub passed_by : (early later : List Request) (read : Request) → AllByRecursion (λ r. r.arrival ≤ read.arrival) early

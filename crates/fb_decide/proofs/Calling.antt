@@ -1,24 +1,13 @@
 -- Calls take effect one after another, and other events leave them as they are.
-use Rattle.std.proofs.Common.{◌≡◌, ℕ, zero, suc, ◌+◌, ◌*◌, ◌^◌, ◌<◌, ◌≤◌, List, [], ◌∷◌, Some, drop, filter, map, refl, ap, sym, ◌∙◌, arith}
-use Rattle.std.proofs.Common.{subst}
-use Rattle.std.specs.Prelude.{slice_get, IfSome}
-use Rattle.std.specs.List.{fold}
-use Rattle.std.proofs.lemmas.List.{drop_all}
-use Rattle.fb_units.specs.Rising.{IsRising}
-use Rattle.fb_units.proofs.Comparing.{after_is, by_is}
-use Rattle.fb_geometry.specs.Shape.{Shape}
-use Rattle.fb_script.specs.declared.call.Call.{Call}
+use Rattle.fb_decide.proofs.Words.{◌≡◌, ℕ, zero, suc, ◌+◌, ◌^◌, ◌<◌, ◌≤◌, List, [], ◌∷◌, Some, drop, filter, map, refl, ap, sym, ◌∙◌}
+use Rattle.fb_decide.proofs.Words.{arith, subst, slice_get, IfSome, fold, drop_all, IsRising, after_is, by_is, Shape, Call, Entry}
+use Rattle.fb_decide.proofs.Words.{DeliveryRow, Past, take_call, calls_due, with_delivery, Session, delivery_of, Tells, IsCalled}
+use Rattle.fb_decide.proofs.Words.{past_with}
+use Rattle.std.proofs.Common.{◌*◌}
 use Rattle.fb_script.specs.Allowed.{blocks_from}
-use Rattle.fb_wanted.specs.declared.block.Entry.{Entry}
-use Rattle.fb_rows.specs.declared.back.DeliveryRow.{DeliveryRow}
-use Rattle.fb_model.specs.History.{Past}
-use Rattle.fb_model.specs.Steps.{take_call, calls_due, with_delivery}
-use Rattle.fb_tasks.specs.declared.session.Session.{Session}
-use Rattle.fb_tasks.specs.Taken.{delivery_of}
-use Rattle.fb_tasks.specs.Telling.{Tells, MayTake, MaySettle}
+use Rattle.fb_tasks.specs.Telling.{MayTake, MaySettle}
 use Rattle.fb_tasks.proofs.Calls.{count-is, left-is, may-take, called-more, called-delivered}
-use Rattle.fb_decide.specs.Calls.{IsScriptOf, IsCalled}
-use Rattle.fb_decide.specs.Deliveries.{past_with}
+use Rattle.fb_decide.specs.Calls.{IsScriptOf}
 use Rattle.fb_model.proofs.HistoriesUpTo.{calls_by, none_come}
 
 none_ahead : (now n : ℕ) (calls : List Call) → IsRising (map (λ call. call.instant) calls)

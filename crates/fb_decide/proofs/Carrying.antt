@@ -1,40 +1,21 @@
 -- What a read carries, gathered extent by extent, is what it carries, and is due.
-use Rattle.std.proofs.Common.{◌≡◌, List, [], ◌∷◌, ◌++◌, map, filter, Bool, true, false, ◌||◌, inl, inr, refl, sym, ap, ◌∙◌, arith, subst, ℕ}
-use Rattle.std.proofs.Common.{◌+◌, ◌-◌, ◌≤◌, ◌<◌, length, take, drop, get_or, ◌&&◌, Some, ◌^◌}
-use Rattle.std.specs.List.{fold, AllByRecursion}
-use Rattle.std.proofs.lemmas.Bool.{cases_Bool}
-use Rattle.std.proofs.lemmas.Bool.Decides.{nat_tests}
-use Rattle.std.specs.Prelude.{slice_get, nat_le, nat_lt}
-use Rattle.std.proofs.lemmas.List.{append_assoc, map-append, drop_more, drop_all}
-use Rattle.std.proofs.lemmas.List.Elements.{filter-append}
-use Rattle.std.proofs.lemmas.Option.{slice_get-get_or}
+use Rattle.fb_decide.proofs.Words.{◌≡◌, List, [], ◌∷◌, ◌++◌, map, filter, Bool, true, false, ◌||◌, inl, inr, refl, sym, ap, ◌∙◌, arith}
+use Rattle.fb_decide.proofs.Words.{subst, ℕ, ◌+◌, ◌-◌, ◌≤◌, ◌<◌, length, take, drop, get_or, ◌&&◌, Some, ◌^◌, fold, AllByRecursion}
+use Rattle.fb_decide.proofs.Words.{cases_Bool, nat_tests, slice_get, nat_le, nat_lt, map-append, drop_more, drop_all, filter-append}
+use Rattle.fb_decide.proofs.Words.{slice_get-get_or, all_get, all_weaker, take_at, Request, all_any, filter_same, Block, IsBlockOn}
+use Rattle.fb_decide.proofs.Words.{same_block, Past, wanted, Catch, AreDistinct, AreDeliverable, held_now, Shape, track_at, IsUnbroken}
+use Rattle.fb_decide.proofs.Words.{Extent, Passage, Entry, wanted_of, placed, lies_in, ride_of, carried_of, carried_rows, delivery_row}
+use Rattle.fb_decide.proofs.Words.{added, begins_in, AreLaid, AreExtents, Disk, Holding, Served}
+use Rattle.std.proofs.lemmas.List.{append_assoc}
 use Rattle.fb_units.proofs.Tracks.{track_itself}
-use Rattle.fb_units.proofs.Lists.{all_get, all_weaker, take_at}
-use Rattle.fb_units.specs.declared.types.Request.{Request}
 use Rattle.fb_units.specs.Tracks.{same_track}
 use Rattle.fb_units.proofs.Filtered.{none_kept}
-use Rattle.fb_units.proofs.Each.{all_any}
-use Rattle.fb_units.proofs.Alike.{filter_same}
-use Rattle.fb_wanted.specs.declared.block.Block.{Block}
-use Rattle.fb_model.specs.Blocks.{IsBlockOn}
-use Rattle.fb_model.specs.History.{same_block, Past, wanted}
-use Rattle.fb_rows.specs.declared.gap.Catch.{Catch}
 use Rattle.fb_plan.proofs.Sorted.{not_both}
-use Rattle.fb_decide.specs.Deliveries.{AreDistinct, AreDeliverable, held_now}
-use Rattle.fb_geometry.specs.Shape.{Shape}
-use Rattle.fb_sectormap.specs.LookUp.{track_at}
-use Rattle.fb_service.specs.Extents.{IsUnbroken}
-use Rattle.fb_service.specs.declared.passage.Extent.{Extent}
-use Rattle.fb_service.specs.declared.passage.Passage.{Passage}
-use Rattle.fb_wanted.specs.declared.block.Entry.{Entry}
-use Rattle.fb_wanted.specs.States.{on_track, wanted_of}
-use Rattle.fb_model.specs.Deliveries.{is_before, placed, lies_in, ride_of, carried_of, carried_rows, delivery_row}
-use Rattle.fb_decide.specs.Carried.{added, begins_in, begun_in, AreLaid, AreExtents}
+use Rattle.fb_wanted.specs.States.{on_track}
+use Rattle.fb_model.specs.Deliveries.{is_before}
+use Rattle.fb_decide.specs.Carried.{begun_in}
 use Rattle.fb_geometry.specs.Places.{places}
-use Rattle.fb_service.specs.declared.disk.Disk.{Disk}
-use Rattle.fb_store.specs.Ranges.{Holding}
 use Rattle.fb_rows.specs.declared.gap.How.TheVariants.{Ride as ByRide}
-use Rattle.fb_model.specs.PlainReplay.{Served}
 use Rattle.fb_decide.proofs.Placing.{due-filtered}
 
 -- ---- catches that are placed one after another stand in the order of deliveries, whichever of them is placed first

@@ -1,34 +1,21 @@
 -- Who has arrived and is taken, and the next instant and decision, from what stands before them.
-use Rattle.std.proofs.Common.{◌≡◌, ℕ, zero, suc, ◌+◌, ◌<◌, ◌≤◌, max, List, [], ◌∷◌, ◌++◌, length, drop, Bool, true, refl, ap, sym}
-use Rattle.std.proofs.Common.{◌∙◌, arith, Option, Some, None, append_assoc, inl, inr, subst, ◌⊎◌, min, map, take, get_or}
-use Rattle.std.specs.Prelude.{slice_get, IfSome, nat_le, ◌==◌, filter, unwrap_or}
-use Rattle.std.specs.Option.{option_map}
-use Rattle.std.specs.List.{AllByRecursion, fold}
-use Rattle.std.proofs.lemmas.Bool.Decides.{nat_tests}
-use Rattle.std.proofs.lemmas.Bool.{cases_lt}
-use Rattle.std.proofs.lemmas.List.{length-append, drop_more, nil_from_length}
-use Rattle.std.proofs.lemmas.Option.{none-some, same_Some}
-use Rattle.fb_units.proofs.Lists.{all_filter, all_weaker}
-use Rattle.fb_units.specs.declared.types.Track.{Track}
-use Rattle.fb_units.specs.declared.types.Request.{Request}
-use Rattle.fb_units.specs.Rising.{IsRising}
+use Rattle.fb_decide.proofs.Words.{◌≡◌, ℕ, zero, suc, ◌+◌, ◌<◌, ◌≤◌, max, List, [], ◌∷◌, ◌++◌, length, drop, Bool, true, refl, ap, sym}
+use Rattle.fb_decide.proofs.Words.{◌∙◌, arith, Option, Some, None, append_assoc, inl, inr, subst, ◌⊎◌, map, take, get_or, slice_get}
+use Rattle.fb_decide.proofs.Words.{IfSome, nat_le, unwrap_or, option_map, AllByRecursion, fold, nat_tests, cases_lt, length-append}
+use Rattle.fb_decide.proofs.Words.{drop_more, same_Some, all_filter, all_weaker, Track, Request, IsRising, after_is, by_is, Disk, Key}
+use Rattle.fb_decide.proofs.Words.{first_least, first_ready, start_of, service, finish, last_track, plain, Served, IsRequestOf, RunState}
+use Rattle.fb_decide.proofs.Words.{left, IsWaiting, AreByArrival, Course, Call, Inputs, requests, instants_of, serves, idles, idle_until}
+use Rattle.fb_decide.proofs.Words.{last_decision, decisions_from, IsAmong, was_all_among, next_of}
+use Rattle.std.proofs.Common.{min}
+use Rattle.std.specs.Prelude.{◌==◌, filter}
+use Rattle.std.proofs.lemmas.List.{nil_from_length}
+use Rattle.std.proofs.lemmas.Option.{none-some}
 use Rattle.fb_units.proofs.Filtered.{rising_filter}
-use Rattle.fb_units.proofs.Comparing.{after_is, by_is}
-use Rattle.fb_service.specs.declared.disk.Disk.{Disk}
-use Rattle.fb_model.specs.PlainReplay.{Key, better, first_least, first_ready, start_of, service, finish, last_track, plain}
-use Rattle.fb_model.specs.PlainReplay.{Served}
-use Rattle.fb_model.specs.Accepted.{IsRequestOf}
-use Rattle.fb_decide.specs.RunState.{RunState}
-use Rattle.fb_decide.specs.Waiting.{left, IsWaiting, AreByArrival}
-use Rattle.fb_decide.specs.declared.deciding.Course.{Course}
+use Rattle.fb_model.specs.PlainReplay.{better}
 use Rattle.fb_model.specs.Laws.{IsFirstLeast, IsPickOf}
 use Rattle.fb_model.proofs.Picks.{pick_of-first_least}
 use Rattle.fb_model.proofs.Picks.{all_without}
-use Rattle.fb_script.specs.declared.call.Call.{Call}
-use Rattle.fb_model.specs.Inputs.{Inputs, requests}
-use Rattle.fb_model.specs.Decisions.{instants_of, serves, idles, idle_until, last_decision, decisions_from}
-use Rattle.fb_model.proofs.Instants.{IsAmong, rising_all_among, was_all_among, one_filtered, filtered_below}
-use Rattle.fb_decide.specs.Deciding.{next_of}
+use Rattle.fb_model.proofs.Instants.{rising_all_among, one_filtered, filtered_below}
 use Rattle.fb_decide.proofs.Instants.{LieApart, all_of_both, one_of_second, idle_none, idle_next, last_after, last_passed}
 use Rattle.fb_model.proofs.Replays.{none_arrived, start_from as start_after}
 

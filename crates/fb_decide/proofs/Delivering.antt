@@ -1,41 +1,22 @@
 -- What deliveries make of a history, and deliveries after deliveries.
-use Rattle.std.proofs.Common.{◌≡◌, ℕ, zero, suc, ◌+◌, ◌^◌, ◌≤◌, ◌&&◌, ◌||◌, not, if◌then◌else◌, List, [], ◌∷◌, ◌++◌, Bool, true, false}
-use Rattle.std.proofs.Common.{Some, length, filter, map, take, slice_get, append-nil, append_assoc, refl, ap, ap₂, sym, ◌∙◌, subst, arith}
+use Rattle.fb_decide.proofs.Words.{◌≡◌, ℕ, zero, suc, ◌+◌, ◌^◌, ◌≤◌, ◌&&◌, ◌||◌, not, if◌then◌else◌, List, [], ◌∷◌, ◌++◌, Bool, true}
+use Rattle.fb_decide.proofs.Words.{false, Some, length, filter, map, take, append-nil, append_assoc, refl, ap, ap₂, sym, ◌∙◌, subst, arith}
+use Rattle.fb_decide.proofs.Words.{AllByRecursion, list_any, range_with_len, flat_map-append, all_append, all_get, all_weaker, map_at}
+use Rattle.fb_decide.proofs.Words.{filter_to, all_any, all_map, IsBlockOn, delivery_row, Shape, Block, Entry, State, is_wanted, wanted_of}
+use Rattle.fb_decide.proofs.Words.{How, DeliveryRow, BackRow, Disk, Content, ContentRun, Holding, content_in, runs_of, bad_of, Past, tasks}
+use Rattle.fb_decide.proofs.Words.{same_block, bare_state, state, registered, wanted, view, Delivery, with_delivery, delivery_rows}
+use Rattle.fb_decide.proofs.Words.{Session, delivery_of, rows_after, Tells, MayDeliver, IsBlockOf, Background, TellsUpToDate, HasDelivered}
+use Rattle.fb_decide.proofs.Words.{IsRegistered, AreDistinct, AreDeliverable, IsOneOf, block_in, followed, past_with, held_now}
+use Rattle.std.proofs.Common.{slice_get}
 use Rattle.std.specs.Prelude.{Result, Ok, Err, IfOk}
-use Rattle.std.specs.List.{AllByRecursion, list_any, range_with_len}
-use Rattle.std.proofs.lemmas.List.Concat.{flat_map-append}
-use Rattle.fb_units.proofs.Lists.{all_append, all_get, all_weaker, map_at}
-use Rattle.fb_units.proofs.Filtered.{all_kept, filter_from, filter_to}
-use Rattle.fb_units.proofs.Each.{all_any, all_map}
-use Rattle.fb_model.specs.Blocks.{IsBlockOn}
-use Rattle.fb_model.specs.Deliveries.{delivery_row}
-use Rattle.fb_geometry.specs.Shape.{Shape}
-use Rattle.fb_wanted.specs.declared.block.Block.{Block}
-use Rattle.fb_wanted.specs.declared.block.Entry.{Entry}
-use Rattle.fb_wanted.specs.declared.block.State.{State}
+use Rattle.fb_units.proofs.Filtered.{all_kept, filter_from}
 use Rattle.fb_wanted.specs.declared.block.State.TheVariants.{Delivered}
-use Rattle.fb_wanted.specs.States.{is_wanted, wanted_of}
-use Rattle.fb_rows.specs.declared.gap.How.{How}
-use Rattle.fb_rows.specs.declared.back.DeliveryRow.{DeliveryRow}
-use Rattle.fb_rows.specs.declared.back.BackRow.{BackRow}
 use Rattle.fb_rows.specs.declared.back.BackRow.TheVariants.{Got as BackGot}
-use Rattle.fb_service.specs.declared.disk.Disk.{Disk}
-use Rattle.fb_store.specs.declared.content.Content.{Content}
-use Rattle.fb_store.specs.declared.content.ContentRun.{ContentRun}
-use Rattle.fb_store.specs.Ranges.{Holding, content_in}
 use Rattle.fb_store.specs.Sparse.{Gives}
-use Rattle.fb_store.specs.Runs.{runs_of, bad_of}
-use Rattle.fb_model.specs.History.{Past, tasks, same_block, bare_state, is_suspended, state, registered, wanted}
-use Rattle.fb_model.specs.Completion.{view}
-use Rattle.fb_model.specs.Steps.{Delivery, with_delivery, delivery_rows}
+use Rattle.fb_model.specs.History.{is_suspended}
 use Rattle.fb_plan.specs.Ways.{AreOnDisk}
-use Rattle.fb_tasks.specs.declared.session.Session.{Session}
-use Rattle.fb_tasks.specs.Taken.{delivery_of, rows_after}
-use Rattle.fb_tasks.specs.Telling.{Tells, MayDeliver, IsUpToDate, IsBlockOf, entry_of}
+use Rattle.fb_tasks.specs.Telling.{IsUpToDate, entry_of}
 use Rattle.fb_tasks.proofs.States.{shown}
-use Rattle.fb_decide.specs.declared.background.Background.{Background}
-use Rattle.fb_decide.specs.Deliveries.{TellsUpToDate, HasDelivered, IsRegistered, AreDistinct, AreDeliverable, IsOneOf, block_in, followed}
-use Rattle.fb_decide.specs.Deliveries.{past_with, held_now}
 
 -- of the registered blocks, those that are wanted are the history's
 wanted_by : (past : Past) (bs : List Block) → wanted_of (map (entry_of past) bs) ≡ filter (λ b. is_wanted (state past b)) bs

@@ -1,28 +1,18 @@
 -- Where deliveries found what the disk held, the rows of a test are the disk's own.
-use Rattle.std.proofs.Common.{◌≡◌, ℕ, ◌≤◌, ◌==◌, ◌&&◌, if◌then◌else◌, List, [], ◌∷◌, ◌++◌, Bool, true, false, filter, map, refl, ap, ap₂}
-use Rattle.std.proofs.Common.{sym, ◌∙◌, arith}
-use Rattle.std.specs.List.{AllByRecursion, range_with_len}
-use Rattle.std.proofs.lemmas.Bool.{and_parts}
-use Rattle.fb_units.proofs.Lists.{all_filter}
-use Rattle.fb_units.proofs.Each.{all_any, all_pass, all_with, list_all_each}
-use Rattle.fb_units.proofs.Alike.{flat_same, map_same}
-use Rattle.fb_store.specs.declared.content.Content.{Content}
-use Rattle.fb_store.specs.declared.content.ContentRun.{ContentRun}
-use Rattle.fb_store.specs.Runs.{runs_of, sectors_of}
-use Rattle.fb_store.specs.Ranges.{Holding, content_in}
+use Rattle.fb_decide.proofs.Words.{◌≡◌, ℕ, ◌≤◌, ◌==◌, ◌&&◌, if◌then◌else◌, List, [], ◌∷◌, ◌++◌, Bool, true, false, filter, map, refl, ap}
+use Rattle.fb_decide.proofs.Words.{ap₂, sym, ◌∙◌, arith, AllByRecursion, range_with_len, and_parts, all_filter, all_any, all_pass}
+use Rattle.fb_decide.proofs.Words.{all_with, map_same, Content, ContentRun, runs_of, sectors_of, Holding, content_in, Block, is_delivered}
+use Rattle.fb_decide.proofs.Words.{Medium, content, contents_at, Past, registered, blocks_of, bare_state, content_of, is_open_backup}
+use Rattle.fb_decide.proofs.Words.{Choice, choices, view, held_at_delivery, test_rows, IsRegistered, Mirrors, IsTrue, own}
+use Rattle.fb_units.proofs.Each.{list_all_each}
+use Rattle.fb_units.proofs.Alike.{flat_same}
 use Rattle.fb_store.proofs.Runs.{sectors_of-runs_of}
-use Rattle.fb_wanted.specs.declared.block.Block.{Block}
-use Rattle.fb_wanted.specs.States.{is_delivered}
 use Rattle.fb_rows.specs.declared.back.BackRow.TheVariants.{Seal as BackSeal}
-use Rattle.fb_model.specs.Content.{Medium, content, contents_at}
-use Rattle.fb_model.specs.History.{Past, task_numbers, registered, blocks_of, bare_state, content_of, is_open_backup}
-use Rattle.fb_model.specs.Completion.{Choice, choices, view, work, own_of, is_cleaned, is_complete}
-use Rattle.fb_model.specs.Images.{held_at_delivery, image, packed, is_newly_cleaned, segment_row, segment_rows, seal_rows}
-use Rattle.fb_model.specs.Images.{complete_rows, test_rows}
+use Rattle.fb_model.specs.History.{task_numbers}
+use Rattle.fb_model.specs.Completion.{work, own_of, is_cleaned, is_complete}
+use Rattle.fb_model.specs.Images.{image, packed, is_newly_cleaned, segment_row, segment_rows, seal_rows}
+use Rattle.fb_model.specs.Images.{complete_rows}
 use Rattle.fb_tasks.specs.Taken.{found_for, segment_rows_found, seal_rows_found, test_rows_found}
-use Rattle.fb_decide.specs.Deliveries.{IsRegistered}
-use Rattle.fb_decide.specs.Standing.{Mirrors, IsTrue}
-use Rattle.fb_tasks.proofs.Registered.{own}
 use Rattle.fb_decide.proofs.RegisteredBlocks.{AreOwn, each_in, chosen_there}
 
 -- what sectors hold now is what they hold at an instant at which the disk is as it is now

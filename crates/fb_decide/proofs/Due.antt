@@ -1,20 +1,11 @@
 -- What is due at a decision, from the disk as it is: each delivery lies within the decision, and the medium gives the same.
-use Rattle.std.proofs.Common.{◌≡◌, ℕ, List, arith}
-use Rattle.std.specs.List.{AllByRecursion}
-use Rattle.fb_units.proofs.Lists.{all_weaker}
-use Rattle.fb_service.specs.declared.disk.Disk.{Disk}
-use Rattle.fb_store.specs.Ranges.{Holding}
-use Rattle.fb_wanted.specs.declared.block.Block.{Block}
-use Rattle.fb_model.specs.Content.{Medium, contents_at}
-use Rattle.fb_model.specs.Decisions.{instant_of, Act, decision_of}
-use Rattle.fb_model.specs.Deliveries.{due}
+use Rattle.fb_decide.proofs.Words.{◌≡◌, ℕ, List, arith, AllByRecursion, all_weaker, Disk, Holding, Block, Medium, contents_at, instant_of}
+use Rattle.fb_decide.proofs.Words.{Act, decision_of, due, IsDueRow, due_block, due_true, DeliversBy, held_now, Mirrors, IsFoundIn}
 use Rattle.fb_model.specs.SoundRun.{HasPlan}
-use Rattle.fb_model.proofs.Due.{IsDueRow, due_block, due_bytes, due_true}
+use Rattle.fb_model.proofs.Due.{due_bytes}
 use Rattle.fb_model.proofs.DecisionsUpTo.{IsMade}
 use Rattle.fb_model.proofs.HistoriesUpTo.{HasSector}
-use Rattle.fb_model.proofs.DueUpTo.{DeliversBy, due_between, same_due}
-use Rattle.fb_decide.specs.Deliveries.{held_now}
-use Rattle.fb_decide.specs.Standing.{Mirrors, IsFoundIn}
+use Rattle.fb_model.proofs.DueUpTo.{due_between, same_due}
 use Rattle.fb_decide.proofs.DiskRows.{mirrored}
 use Rattle.fb_decide.proofs.Delivering.{row-is}
 

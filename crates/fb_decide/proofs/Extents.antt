@@ -1,21 +1,9 @@
 -- The extents of a service lie end to end, and have the passage of each sector.
-use Rattle.std.proofs.Common.{◌≡◌, ℕ, zero, suc, ◌+◌, ◌-◌, ◌≤◌, ◌<◌, List, [], ◌∷◌, ◌++◌, length, drop, get_or, map, Bool, refl, sym, ap}
-use Rattle.std.proofs.Common.{ap₂, ◌∙◌, arith, find, ◌==◌, Option, None, Some, inl, inr}
-use Rattle.std.specs.List.{AllByRecursion, flat_map, range_with_len}
-use Rattle.std.proofs.lemmas.List.{map-append, drop_more, drop_all}
-use Rattle.fb_units.specs.declared.types.Track.{Track}
-use Rattle.fb_geometry.specs.Shape.{Shape}
-use Rattle.fb_sectormap.specs.LookUp.{track_at}
-use Rattle.fb_seek.specs.Positioning.{pos}
-use Rattle.fb_service.specs.declared.disk.Disk.{Disk}
-use Rattle.fb_service.specs.declared.passage.Passage.{Passage}
-use Rattle.fb_service.specs.declared.passage.Extent.{Extent}
-use Rattle.fb_service.specs.Service.{passages, passage_from}
-use Rattle.fb_service.specs.Extents.{passages_of, all_passages_of, IsUnbroken}
-use Rattle.fb_decide.specs.Carried.{AreLaid}
+use Rattle.fb_decide.proofs.Words.{◌≡◌, ℕ, zero, suc, ◌+◌, ◌-◌, ◌≤◌, ◌<◌, List, [], ◌∷◌, ◌++◌, length, drop, get_or, map, Bool, refl, sym}
+use Rattle.fb_decide.proofs.Words.{ap, ap₂, ◌∙◌, arith, find, ◌==◌, Option, None, Some, inl, inr, AllByRecursion, flat_map, range_with_len}
+use Rattle.fb_decide.proofs.Words.{map-append, drop_more, drop_all, Track, Shape, track_at, pos, Disk, Passage, Extent, passages}
+use Rattle.fb_decide.proofs.Words.{passage_from, passages_of, all_passages_of, IsUnbroken, AreLaid, cases_Bool, nat_tests}
 use Rattle.std.specs.Option.{option_or}
-use Rattle.std.proofs.lemmas.Bool.{cases_Bool}
-use Rattle.std.proofs.lemmas.Bool.Decides.{nat_tests}
 use Rattle.std.proofs.lemmas.List.Folds.{find-append}
 
 abbrev lbn_of : Passage → ℕ

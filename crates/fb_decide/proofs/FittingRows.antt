@@ -1,32 +1,16 @@
 -- The tasks of a run's background rows are the script's.
-use Rattle.std.proofs.Common.{◌≡◌, ℕ, ◌<◌, ◌≤◌, List, ◌∷◌, length, map, take, drop, ap, sym, subst, ◌∙◌, arith}
-use Rattle.std.specs.List.{AllByRecursion}
-use Rattle.std.proofs.lemmas.List.{length-append, take-append-drop}
-use Rattle.std.proofs.lemmas.List.Concat.{flat_map-append}
-use Rattle.fb_units.proofs.Lists.{all_left, all_weaker}
-use Rattle.fb_units.proofs.Each.{all_any}
-use Rattle.fb_geometry.specs.Shape.{Shape}
-use Rattle.fb_script.specs.declared.call.Call.{Call}
+use Rattle.fb_decide.proofs.Words.{◌≡◌, ℕ, ◌<◌, ◌≤◌, List, ◌∷◌, length, map, take, drop, ap, sym, subst, ◌∙◌, arith, AllByRecursion}
+use Rattle.fb_decide.proofs.Words.{length-append, flat_map-append, all_left, all_weaker, all_any, Shape, Call, Block, Entry, DeliveryRow}
+use Rattle.fb_decide.proofs.Words.{Inputs, Medium, medium_of, contents_at, due, IsDueRow, due_block, due_true, wanted_all, instant_of, Act}
+use Rattle.fb_decide.proofs.Words.{Event, delivered, finished, tested, Past, tasks, registered, registered_by, wanted, Delivery, Step}
+use Rattle.fb_decide.proofs.Words.{decision_in, chosen_past, past_after, step_rows, task_rows, Session, Tells, IsBlockOf, calls_of}
+use Rattle.fb_decide.proofs.Words.{HasTaskBelow, IsMade}
+use Rattle.std.proofs.lemmas.List.{take-append-drop}
 use Rattle.fb_script.specs.Allowed as allowed
-use Rattle.fb_wanted.specs.declared.block.Block.{Block}
-use Rattle.fb_wanted.specs.declared.block.Entry.{Entry}
-use Rattle.fb_rows.specs.declared.back.DeliveryRow.{DeliveryRow}
-use Rattle.fb_model.specs.Inputs.{Inputs}
-use Rattle.fb_model.specs.Content.{Medium, medium_of, contents_at}
-use Rattle.fb_model.specs.Deliveries.{due}
-use Rattle.fb_model.proofs.Due.{IsDueRow, due_block, due_true, wanted_all}
-use Rattle.fb_model.specs.Decisions.{instant_of, Act}
-use Rattle.fb_model.specs.History.{Event, delivered, finished, tested, Past, tasks, registered, registered_by, wanted}
-use Rattle.fb_model.specs.Steps.{Delivery, Step, decision_in, chosen_past, past_after}
-use Rattle.fb_model.specs.Steps.{step_rows, task_rows}
-use Rattle.fb_tasks.specs.declared.session.Session.{Session}
-use Rattle.fb_tasks.specs.Telling.{Tells, IsBlockOf, calls_of}
 use Rattle.fb_model.proofs.EachRow.{RowsHave, AnyEnds, any_linked, step_has, tasks_have}
 use Rattle.fb_model.proofs.Events.{by_step}
 use Rattle.fb_model.proofs.Histories.{opened_same}
 use Rattle.fb_decide.proofs.RegisteredBlocks.{registered_after, tasks_more}
-use Rattle.fb_rows.specs.Tasks.{HasTaskBelow}
-use Rattle.fb_decide.specs.Making.{IsMade}
 
 -- ---- rows and histories
 

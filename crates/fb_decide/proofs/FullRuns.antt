@@ -1,23 +1,16 @@
 -- The rows of decisions, and that a run whose decisions have all been made is full.
-use Rattle.std.proofs.Common.{◌≡◌, List, [], ◌∷◌, ◌++◌, map, ap, sym, subst, ◌∙◌, true, false, refl, append-nil}
-use Rattle.std.specs.List.{flat_map}
-use Rattle.std.proofs.lemmas.List.{map-append}
-use Rattle.std.proofs.lemmas.List.Concat.{flat_map-append}
-use Rattle.fb_units.proofs.Each.{all_any}
-use Rattle.fb_rows.specs.declared.fore.ForeRow.{ForeRow}
-use Rattle.fb_rows.specs.declared.back.BackRow.{BackRow}
+use Rattle.fb_decide.proofs.Words.{◌≡◌, List, [], ◌∷◌, ◌++◌, map, ap, sym, subst, ◌∙◌, true, false, refl, append-nil, flat_map, map-append}
+use Rattle.fb_decide.proofs.Words.{flat_map-append, all_any, ForeRow, BackRow, Inputs, requests, Medium, medium_of, fore_row, Decision}
+use Rattle.fb_decide.proofs.Words.{serves, idles, ends, decisions, run_end, Past, Step, decision_in, decisions_in, past_after, step_rows}
+use Rattle.fb_decide.proofs.Words.{task_rows, history, IsMade, fore_row_of, rest_of, decisions_by}
 use Rattle.fb_rows.specs.declared.run.Run.{Run}
-use Rattle.fb_model.specs.Inputs.{Inputs, requests}
-use Rattle.fb_model.specs.Content.{Medium, medium_of, fore_row, fore_rows}
-use Rattle.fb_model.specs.Decisions.{Decision, serves, idles, ends, decisions, run_end}
-use Rattle.fb_model.specs.History.{Past}
-use Rattle.fb_model.specs.Steps.{Step, decision_in, decisions_in, past_after, AtEach, step_rows, task_rows, history}
+use Rattle.fb_model.specs.Content.{fore_rows}
+use Rattle.fb_model.specs.Steps.{AtEach}
 use Rattle.fb_model.specs.FullRun.{IsFull}
 use Rattle.fb_model.proofs.Chain.{services, decisions_follow}
 use Rattle.fb_model.proofs.FullRuns.{IsFullStep}
 use Rattle.fb_model.proofs.FullSteps.{steps_are_full}
 use Rattle.fb_model.proofs.Steps.{AtEach-append}
-use Rattle.fb_decide.specs.Making.{IsMade, fore_row_of, rest_of, decisions_by}
 use Rattle.fb_decide.specs.FullRuns.{RowsGoOn, ForeRowsBegin, ForeRowsEnd, RowsAreFull}
 
 -- ---- the rows of decisions, and that a run whose decisions have all been made is full

@@ -1,49 +1,30 @@
 -- A run goes on by one decision.
-use Rattle.std.proofs.Common.{◌≡◌, ℕ, List, [], ◌∷◌, ◌++◌, refl, ap, sym, subst, ◌∙◌, append_assoc, suc, ◌+◌, ◌<◌, ◌≤◌, ◌^◌, Bool, true}
-use Rattle.std.proofs.Common.{false, None, Some, length, map, take, drop, arith, append-nil}
-use Rattle.std.specs.List.{fold, AllByRecursion}
-use Rattle.std.proofs.lemmas.List.{map-append, length-append}
-use Rattle.std.specs.Prelude.{nat_lt, nat_le, slice_get, filter, if◌then◌else◌}
-use Rattle.std.proofs.lemmas.Bool.Decides.{nat_tests}
-use Rattle.fb_units.proofs.Lists.{all_weaker, all_append, all_left, all_right}
-use Rattle.fb_units.specs.declared.types.Request.{Request}
-use Rattle.fb_units.proofs.Each.{all_map, all_pass}
+use Rattle.fb_decide.proofs.Words.{◌≡◌, ℕ, List, [], ◌∷◌, ◌++◌, refl, ap, sym, subst, ◌∙◌, append_assoc, suc, ◌+◌, ◌<◌, ◌≤◌, ◌^◌, Bool}
+use Rattle.fb_decide.proofs.Words.{true, false, None, Some, length, map, take, drop, arith, append-nil, fold, AllByRecursion, map-append}
+use Rattle.fb_decide.proofs.Words.{length-append, nat_lt, nat_le, slice_get, nat_tests, all_weaker, all_append, all_left, all_right}
+use Rattle.fb_decide.proofs.Words.{Request, all_map, all_pass, Served, service, finish, last_track, plain, first_least, start_of, Inputs}
+use Rattle.fb_decide.proofs.Words.{served, requests, medium_of, Written, fore_row, Decision, end_of, run_end, serves, idles, ends}
+use Rattle.fb_decide.proofs.Words.{instants_of, decisions_from, decisions, last_decision, Act, idling, ending, Step, decision_in}
+use Rattle.fb_decide.proofs.Words.{decisions_in, past_after, history, take_call, calls_due, Tells, calls_of, Course, IsCalled, tested_by}
+use Rattle.fb_decide.proofs.Words.{IsTrue, Mirrors, Replayed, all_writes, fore_row_of, GoesOn, HasComeTo, AreKnown, decisions_by, rest_of}
+use Rattle.fb_decide.proofs.Words.{DeliveryRow, Shape, IsTrackOf, Call, AreAllowed, Holding, content_in, IsRequestOf, Past, IsAmong}
+use Rattle.fb_decide.proofs.Words.{Background, RunState, left, IsWaiting, AreByArrival, next_of, dwell_until, ready_to_act, HasServedNext}
+use Rattle.fb_decide.proofs.Words.{HasStayed, HasActed, serves_pick, stays_on, stays_last, ends_here, HasDecided, by_all}
+use Rattle.std.specs.Prelude.{filter, if◌then◌else◌}
 use Rattle.fb_units.proofs.Comparing.{is_by}
-use Rattle.fb_model.specs.PlainReplay.{Served, service, finish, last_track, plain, first_least, start_of}
-use Rattle.fb_model.specs.Inputs.{Inputs, served, requests}
-use Rattle.fb_model.specs.Content.{medium_of, Written, fore_row}
-use Rattle.fb_model.specs.Decisions.{Decision, end_of, run_end, serves, idles, ends, instants_of, decisions_from, decisions, last_decision}
-use Rattle.fb_model.specs.Decisions.{Act, idling, ending}
-use Rattle.fb_model.specs.Steps.{Step, decision_in, decisions_in, past_after, history, take_call, calls_left, calls_due}
+use Rattle.fb_model.specs.Steps.{calls_left}
 use Rattle.fb_model.proofs.Steps.{history-append}
-use Rattle.fb_tasks.specs.Telling.{Tells, calls_of}
-use Rattle.fb_decide.specs.declared.deciding.Course.{Course}
-use Rattle.fb_decide.specs.Calls.{IsCalled, tested_by}
-use Rattle.fb_decide.specs.Standing.{IsTrue, Mirrors}
-use Rattle.fb_decide.specs.Making.{Replayed, HasRun, all_writes, fore_row_of, GoesOn, HasEnded, HasComeTo, AreKnown, decisions_by}
-use Rattle.fb_decide.specs.Making.{decisions_left, rest_by, rest_of}
-use Rattle.fb_rows.specs.declared.back.DeliveryRow.{DeliveryRow}
+use Rattle.fb_decide.specs.Making.{HasRun, HasEnded}
+use Rattle.fb_decide.specs.Making.{decisions_left, rest_by}
 use Rattle.fb_decide.proofs.Truth.{step_by}
 use Rattle.fb_decide.proofs.Stepping.{HasStepped, StepsBy, served_act, serves_step, stays_step, ends_step}
-use Rattle.fb_geometry.specs.Shape.{Shape, IsTrackOf}
-use Rattle.fb_script.specs.declared.call.Call.{Call}
-use Rattle.fb_script.specs.Allowed.{AreAllowed}
-use Rattle.fb_store.specs.Ranges.{Holding, content_in}
-use Rattle.fb_model.specs.Accepted.{IsRequestOf}
-use Rattle.fb_model.specs.History.{Past}
-use Rattle.fb_model.proofs.Instants.{IsAmong}
-use Rattle.fb_decide.specs.declared.background.Background.{Background}
-use Rattle.fb_decide.specs.RunState.{RunState}
-use Rattle.fb_decide.specs.Waiting.{left, IsWaiting, AreByArrival}
-use Rattle.fb_decide.specs.Deciding.{next_of, dwell_until, ready_to_act, HasServedNext, HasStayed, HasActed, serves_pick, stays_on}
-use Rattle.fb_decide.specs.Deciding.{stays_last, ends_here, IsReadyToAct, HasDecided}
+use Rattle.fb_decide.specs.Deciding.{IsReadyToAct}
 use Rattle.fb_decide.proofs.Decided.{none_served, taken, taken_ready, start_waiting, ahead_of, plain_next, order_dropped, serves_now}
 use Rattle.fb_decide.proofs.Decided.{stays_next, ends_now, plain_same, starts_from, StartsFrom, HasCome, to_come, among_instants}
 use Rattle.fb_decide.proofs.Decided.{apart_instants, left_later, passed_instants, none_left, rising_instants}
 use Rattle.fb_decide.proofs.Replayed.{row_made, replayed_more}
 use Rattle.fb_decide.proofs.Instants.{all_of_both, at_among}
 use Rattle.fb_decide.proofs.Mirroring.{held_until, mirrors_run, all_late, served_late}
-use Rattle.fb_model.proofs.Events.{by_all}
 
 -- ---- one more step
 

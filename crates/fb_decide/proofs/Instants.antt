@@ -1,12 +1,8 @@
 -- The instants of arrivals and calls, and the idle dwells from one to the next.
-use Rattle.std.proofs.Common.{◌≡◌, ◌⊎◌, ℕ, ◌<◌, ◌≤◌, max, List, [], ◌∷◌, true, false, refl, ap, ◌∙◌, arith, inl, inr, subst}
-use Rattle.std.specs.Prelude.{nat_lt}
-use Rattle.std.specs.List.{AllByRecursion, fold}
-use Rattle.std.proofs.lemmas.Bool.Decides.{nat_tests}
-use Rattle.fb_units.specs.declared.types.Track.{Track}
-use Rattle.fb_units.specs.Rising.{IsRising}
-use Rattle.fb_model.specs.Decisions.{idles, among, idle_until}
-use Rattle.fb_model.proofs.Instants.{IsAmong, all_among, was_all_among, fold_max, most_among}
+use Rattle.fb_decide.proofs.Words.{◌≡◌, ◌⊎◌, ℕ, ◌<◌, ◌≤◌, max, List, [], ◌∷◌, true, false, refl, ap, ◌∙◌, arith, inl, inr, subst, nat_lt}
+use Rattle.fb_decide.proofs.Words.{AllByRecursion, fold, nat_tests, Track, IsRising, idles, idle_until, IsAmong, was_all_among}
+use Rattle.fb_model.specs.Decisions.{among}
+use Rattle.fb_model.proofs.Instants.{all_among, fold_max, most_among}
 
 -- ---- an instant comes among others
 

@@ -1,3 +1,4 @@
+pub mod Words
 pub mod Replayed
 pub mod Behind
 pub mod Due

@@ -1,42 +1,21 @@
 -- A run from its beginning on, one decision after another, with the list of requests as the program has it.
-use Rattle.std.proofs.Common.{◌≡◌, ℕ, ◌+◌, ◌≤◌, ◌^◌, List, [], ◌∷◌, ◌++◌, length, arith, inl, inr, refl, sym, ◌∙◌}
-use Rattle.std.proofs.Common.{Bool, true, false, subst, ap}
-use Rattle.std.specs.Prelude.{nat_le}
-use Rattle.std.specs.List.{AllByRecursion, fold}
-use Rattle.std.proofs.lemmas.Bool.{cases_Bool}
-use Rattle.fb_units.proofs.Lists.{all_append}
-use Rattle.fb_units.specs.declared.types.Request.{Request}
-use Rattle.fb_geometry.specs.Shape.{Shape}
-use Rattle.fb_script.specs.declared.call.Action.{Action}
-use Rattle.fb_script.specs.declared.call.Action.TheVariants.{Promote}
-use Rattle.fb_script.specs.declared.call.Call.{Call}
-use Rattle.fb_script.specs.Allowed.{AreAllowed, MayAsk}
-use Rattle.fb_model.specs.PlainReplay.{Key}
-use Rattle.fb_model.specs.Inputs.{Inputs, requests, served}
-use Rattle.fb_model.specs.Foreground.{behind, read_of, promoted_from, promoted}
-use Rattle.fb_model.specs.Accepted.{IsAccepted, IsRequestOf}
+use Rattle.fb_decide.proofs.Words.{◌≡◌, ℕ, ◌+◌, ◌≤◌, ◌^◌, List, [], ◌∷◌, ◌++◌, length, arith, inl, inr, refl, sym, ◌∙◌, Bool, true, false}
+use Rattle.fb_decide.proofs.Words.{subst, ap, nat_le, AllByRecursion, fold, cases_Bool, all_append, Request, Shape, Action, Promote, Call}
+use Rattle.fb_decide.proofs.Words.{AreAllowed, Key, Inputs, requests, served, behind, IsRequestOf, inputs_of, RunState, IsWaiting, ForeRow}
+use Rattle.fb_decide.proofs.Words.{BackRow, medium_of, decisions, Tells, Course, PassagesTakeTime, HasDecided, HasTaskBelow, GoesOn}
+use Rattle.fb_decide.proofs.Words.{AreKnown, HasComeTo, IsSound, Past, Step, history, past_after, task_rows, IsCalled}
+use Rattle.fb_script.specs.Allowed.{MayAsk}
+use Rattle.fb_model.specs.Foreground.{read_of, promoted_from, promoted}
+use Rattle.fb_model.specs.Accepted.{IsAccepted}
 use Rattle.fb_model.specs.Laws.{ForegroundListsAscend}
 use Rattle.fb_model.proofs.Passages.{all_requests}
 use Rattle.fb_decide.specs.declared.run_inputs.RunInputs.{RunInputs}
-use Rattle.fb_decide.specs.RunInputs.{inputs_of}
-use Rattle.fb_decide.specs.RunState.{RunState}
-use Rattle.fb_decide.specs.Waiting.{IsForegroundOf, IsWaiting}
+use Rattle.fb_decide.specs.Waiting.{IsForegroundOf}
 use Rattle.fb_decide.proofs.Replayed.{in_order}
-use Rattle.fb_rows.specs.declared.fore.ForeRow.{ForeRow}
-use Rattle.fb_rows.specs.declared.back.BackRow.{BackRow}
-use Rattle.fb_model.specs.Content.{medium_of}
-use Rattle.fb_model.specs.Decisions.{decisions}
-use Rattle.fb_tasks.specs.Telling.{Tells}
-use Rattle.fb_decide.specs.declared.deciding.Course.{Course}
-use Rattle.fb_decide.specs.Deciding.{IsInitial, PassagesTakeTime, HasDecided, MayDecide}
-use Rattle.fb_rows.specs.Tasks.{HasTaskBelow}
-use Rattle.fb_decide.specs.Making.{GoesOn, AreKnown, HasComeTo, HasMade, HasMadeOne}
+use Rattle.fb_decide.specs.Deciding.{IsInitial, MayDecide}
+use Rattle.fb_decide.specs.Making.{HasMade, HasMadeOne}
 use Rattle.fb_decide.proofs.Calling.{called_first}
 use Rattle.fb_decide.proofs.Truth.{true_first}
-use Rattle.fb_geometry.specs.Sound.{IsSound}
-use Rattle.fb_model.specs.History.{Past}
-use Rattle.fb_model.specs.Steps.{Step, history, past_after, task_rows}
-use Rattle.fb_decide.specs.Calls.{IsCalled}
 use Rattle.fb_decide.proofs.FittingRows.{step_fits, tasks_fit, fits-told}
 use Rattle.fb_decide.proofs.Going.{LeadsOn, decided_more}
 use Rattle.fb_script.specs.Allowed as allowed

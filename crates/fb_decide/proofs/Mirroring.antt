@@ -1,26 +1,11 @@
 -- What the disk holds between two decisions it holds until the next write has passed.
-use Rattle.std.proofs.Common.{◌≡◌, ℕ, zero, suc, ◌<◌, ◌≤◌, List, [], ◌∷◌, map, Bool, true, false, Option, Some, None, ap, sym, ◌∙◌}
-use Rattle.std.proofs.Common.{arith}
-use Rattle.std.specs.Prelude.{unwrap_or, if◌then◌else◌}
-use Rattle.std.specs.Option.{option_map}
-use Rattle.std.specs.List.{AllByRecursion}
-use Rattle.fb_units.proofs.Lists.{all_weaker, all_append}
-use Rattle.fb_units.specs.declared.types.Track.{Track}
-use Rattle.fb_units.specs.declared.types.Request.{Request}
-use Rattle.fb_units.proofs.Each.{all_both, all_map}
-use Rattle.fb_service.specs.declared.disk.Disk.{Disk}
-use Rattle.fb_service.specs.declared.passage.Passage.{Passage}
-use Rattle.fb_service.specs.Service.{passages, finish_of, media_of}
-use Rattle.fb_store.specs.Ranges.{Holding}
-use Rattle.fb_model.specs.PlainReplay.{Key, Served, plain, service, media, finish, last_track, start_of, first_ready}
-use Rattle.fb_model.specs.Accepted.{IsRequestOf}
-use Rattle.fb_model.specs.Inputs.{Inputs, served}
-use Rattle.fb_store.specs.Writes.{writer_of}
-use Rattle.fb_model.specs.Content.{Written, medium_of, writes_of, content}
-use Rattle.fb_model.proofs.Passages.{passages_long, passed_between, passes_late, written_by}
-use Rattle.fb_decide.specs.Deciding.{PassagesTakeTime}
-use Rattle.fb_decide.specs.Standing.{Mirrors}
-use Rattle.fb_decide.specs.Making.{Replayed, all_writes}
+use Rattle.fb_decide.proofs.Words.{◌≡◌, ℕ, zero, suc, ◌<◌, ◌≤◌, List, [], ◌∷◌, map, Bool, true, false, Option, Some, None, ap, sym, ◌∙◌}
+use Rattle.fb_decide.proofs.Words.{arith, unwrap_or, option_map, AllByRecursion, all_weaker, all_append, Track, Request, all_both, all_map}
+use Rattle.fb_decide.proofs.Words.{Disk, Passage, passages, finish_of, media_of, Holding, Key, Served, plain, service, media, finish}
+use Rattle.fb_decide.proofs.Words.{last_track, start_of, first_ready, IsRequestOf, Inputs, served, writer_of, Written, medium_of}
+use Rattle.fb_decide.proofs.Words.{writes_of, content, passed_between, written_by, PassagesTakeTime, Mirrors, Replayed, all_writes}
+use Rattle.std.specs.Prelude.{if◌then◌else◌}
+use Rattle.fb_model.proofs.Passages.{passages_long, passes_late}
 use Rattle.fb_decide.proofs.Replayed.{medium_by, content_then}
 use Rattle.fb_model.proofs.Replays.{start_from as start_after}
 use Rattle.fb_model.proofs.Picks.{all_picked, ready_pick}

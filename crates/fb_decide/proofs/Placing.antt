@@ -1,40 +1,22 @@
 -- What is delivered of the wanted blocks, in its order: each once, none is lost, and none is added.
-use Rattle.std.proofs.Common.{◌≡◌, ℕ, ◌+◌, ◌<◌, ◌≤◌, ◌==◌, if◌then◌else◌, List, [], ◌∷◌, Bool, true, false, filter, inl, inr, arith, subst}
-use Rattle.std.proofs.Common.{◌||◌, not, map, refl, ap, sym, ◌∙◌, ◌++◌, Some, length, take, take_all, get_or, slice_get}
-use Rattle.std.specs.List.{AllByRecursion, list_any, fold}
-use Rattle.std.proofs.lemmas.Bool.{cases_Bool}
-use Rattle.std.proofs.lemmas.Bool.Decides.{nat_tests}
+use Rattle.fb_decide.proofs.Words.{◌≡◌, ℕ, ◌+◌, ◌<◌, ◌≤◌, ◌==◌, if◌then◌else◌, List, [], ◌∷◌, Bool, true, false, filter, inl, inr, arith}
+use Rattle.fb_decide.proofs.Words.{subst, ◌||◌, not, map, refl, ap, sym, ◌∙◌, ◌++◌, Some, length, take, take_all, get_or, AllByRecursion}
+use Rattle.fb_decide.proofs.Words.{list_any, fold, cases_Bool, nat_tests, slice_get-get_or, all_filter, all_weaker, map_at, take_at}
+use Rattle.fb_decide.proofs.Words.{all_map, all_with, filter_same, itself, Shape, Block, Entry, is_wanted, wanted_of, Past, same_block}
+use Rattle.fb_decide.proofs.Words.{registered, state, wanted, view, Session, AreNumbered, Tells, AreDistinct, AreDeliverable, IsOneOf}
+use Rattle.fb_decide.proofs.Words.{block_in, past_with, TellsUpToDate, HasDelivered, held_now, How, DeliveryRow, Disk, Holding, placed}
+use Rattle.fb_decide.proofs.Words.{in_order, missed, delivery_row, caught_rows, Catch, BackRow, Background}
+use Rattle.std.proofs.Common.{slice_get}
 use Rattle.std.proofs.Math.Bool.{or-false}
-use Rattle.std.proofs.lemmas.Option.{slice_get-get_or}
 use Rattle.std.proofs.lemmas.List.{length-map}
-use Rattle.fb_units.proofs.Lists.{all_filter, all_weaker, map_at, take_at}
-use Rattle.fb_units.proofs.Each.{all_map, all_with}
-use Rattle.fb_units.proofs.Alike.{filter_same, list_any-map}
-use Rattle.fb_tasks.proofs.Registered.{itself}
-use Rattle.fb_geometry.specs.Shape.{Shape}
-use Rattle.fb_wanted.specs.declared.block.Block.{Block}
-use Rattle.fb_wanted.specs.declared.block.Entry.{Entry}
-use Rattle.fb_wanted.specs.States.{is_wanted, wanted_of}
-use Rattle.fb_model.specs.History.{Past, same_block, registered, state, wanted}
-use Rattle.fb_model.specs.Completion.{view}
-use Rattle.fb_tasks.specs.declared.session.Session.{Session}
-use Rattle.fb_tasks.specs.Standing.{AreNumbered}
-use Rattle.fb_tasks.specs.Telling.{Tells}
+use Rattle.fb_units.proofs.Alike.{list_any-map}
 use Rattle.fb_tasks.proofs.Deliveries.{numbered_from}
-use Rattle.fb_decide.specs.Deliveries.{AreDistinct, AreDeliverable, IsOneOf, block_in, past_with, TellsUpToDate, HasDelivered, held_now}
 use Rattle.fb_rows.specs.declared.gap.Dwell.{Dwell}
-use Rattle.fb_rows.specs.declared.gap.How.{How}
-use Rattle.fb_rows.specs.declared.back.DeliveryRow.{DeliveryRow}
-use Rattle.fb_service.specs.declared.disk.Disk.{Disk}
-use Rattle.fb_store.specs.Ranges.{Holding}
 use Rattle.fb_model.specs.Content.{ContentsAt}
 use Rattle.fb_model.specs.Plans.{catches}
-use Rattle.fb_model.specs.Deliveries.{placed, in_order, missed, catch_of, caught_of, delivery_row, caught_rows}
+use Rattle.fb_model.specs.Deliveries.{catch_of, caught_of}
 use Rattle.fb_model.proofs.Placing.{AnyTwo, all_filtered, all_in_order, two_in_order}
-use Rattle.fb_rows.specs.declared.gap.Catch.{Catch}
 use Rattle.fb_decide.proofs.Delivering.{none_of, wanted-with, next-wanted, delivered-join, past_with-append, wanted-told}
-use Rattle.fb_rows.specs.declared.back.BackRow.{BackRow}
-use Rattle.fb_decide.specs.declared.background.Background.{Background}
 use Rattle.fb_decide.proofs.RegisteredBlocks.{each_in}
 
 -- ---- registered blocks are told apart by task and number

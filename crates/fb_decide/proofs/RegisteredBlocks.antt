@@ -1,28 +1,19 @@
 -- Where registered blocks stand, and that two of the same number are one.
-use Rattle.std.proofs.Common.{◌≡◌, ℕ, ◌<◌, ◌≤◌, ◌==◌, List, [], ◌∷◌, ◌++◌, true, false, Some, inl, inr, length}
-use Rattle.std.proofs.Common.{length-append, slice_get, append-nil, refl, ap, sym, ◌∙◌, arith, subst}
-use Rattle.std.specs.List.{AllByRecursion, list_any}
-use Rattle.std.proofs.lemmas.Bool.{and_parts, cases_Bool, cases_lt, eqb-true, true≢false}
-use Rattle.std.proofs.lemmas.Option.{same_Some}
+use Rattle.fb_decide.proofs.Words.{◌≡◌, ℕ, ◌<◌, ◌≤◌, ◌==◌, List, [], ◌∷◌, ◌++◌, true, false, Some, inl, inr, length, append-nil, refl, ap}
+use Rattle.fb_decide.proofs.Words.{sym, ◌∙◌, arith, subst, AllByRecursion, list_any, and_parts, cases_Bool, cases_lt, true≢false}
+use Rattle.fb_decide.proofs.Words.{same_Some, all_append, all_from_index, all_get, all_weaker, filter_to, Shape, Block, Entry, Event}
+use Rattle.fb_decide.proofs.Words.{called, chose, Past, tasks, registered, registered_by, blocks_of, same_block, Choice, choices, view}
+use Rattle.fb_decide.proofs.Words.{Session, AreNumbered, Tells, IsRegistered, own, itself}
+use Rattle.std.proofs.Common.{length-append, slice_get}
+use Rattle.std.proofs.lemmas.Bool.{eqb-true}
 use Rattle.fb_units.proofs.Among.{Among, among-any, among-append, among-right}
 use Rattle.fb_units.proofs.Comparing.{same_number}
-use Rattle.fb_units.proofs.Lists.{all_append, all_from_index, all_get, all_weaker, append_at, element_at}
+use Rattle.fb_units.proofs.Lists.{append_at, element_at}
 use Rattle.fb_units.proofs.Each.{all_flat}
-use Rattle.fb_units.proofs.Filtered.{filter_to}
-use Rattle.fb_geometry.specs.Shape.{Shape}
-use Rattle.fb_wanted.specs.declared.block.Block.{Block}
-use Rattle.fb_wanted.specs.declared.block.Entry.{Entry}
 use Rattle.fb_script.specs.Sessions.{is_clean}
-use Rattle.fb_model.specs.History.{Event, called, chose, Past, tasks, registered, registered_by}
-use Rattle.fb_model.specs.History.{blocks_of, same_block}
-use Rattle.fb_model.specs.Completion.{Choice, choices, view}
-use Rattle.fb_tasks.specs.declared.session.Session.{Session}
-use Rattle.fb_tasks.specs.Standing.{AreNumbered, IsBlockOf}
-use Rattle.fb_tasks.specs.Telling.{Tells}
-use Rattle.fb_decide.specs.Deliveries.{IsRegistered}
+use Rattle.fb_tasks.specs.Standing.{IsBlockOf}
 use Rattle.fb_model.proofs.Histories.{opened_more}
 use Rattle.fb_script.specs.Allowed.{terms_in}
-use Rattle.fb_tasks.proofs.Registered.{own, itself}
 use Rattle.fb_tasks.proofs.Sealed.{numbered_at}
 
 pub each_in : {X : Type 0} (xs : List X) → AllByRecursion (Among xs) xs

@@ -1,35 +1,19 @@
 -- What services leave on the disk, and the rows that they give.
-use Rattle.std.proofs.Common.{◌≡◌, ℕ, zero, suc, ◌+◌, ◌≤◌, List, [], ◌∷◌, ◌++◌, map, Bool, true, false, refl, ap, ◌∙◌, arith, Option}
-use Rattle.std.proofs.Common.{None, inl, inr, ◌<◌, sym, subst, append-nil}
+use Rattle.fb_decide.proofs.Words.{◌≡◌, ℕ, zero, suc, ◌+◌, ◌≤◌, List, [], ◌∷◌, ◌++◌, map, Bool, true, false, refl, ap, ◌∙◌, arith, Option}
+use Rattle.fb_decide.proofs.Words.{None, inl, inr, ◌<◌, sym, subst, append-nil, AllByRecursion, range_with_len, cases_Bool, filter-append}
+use Rattle.fb_decide.proofs.Words.{flat_map-append, all_weaker, all_append, Track, Request, all_both, all_map, all_unmapped, pos, track_at}
+use Rattle.fb_decide.proofs.Words.{Disk, Passage, passages, finish_of, passage_from, Content, writer_of, service, finish, Served, media}
+use Rattle.fb_decide.proofs.Words.{Written, writes_of, Medium, content, fore_row, passed_between, written_by, ContentRun, runs_of, bad_of}
+use Rattle.fb_decide.proofs.Words.{Holding, content_in, ForeRow, AreByArrival, left_by, all_writes, Replayed}
 use Rattle.std.specs.Prelude.{filter, if◌then◌else◌}
-use Rattle.std.specs.List.{AllByRecursion, last_or, range_with_len}
-use Rattle.std.proofs.lemmas.Bool.{cases_Bool}
-use Rattle.std.proofs.lemmas.List.Elements.{filter-append}
-use Rattle.std.proofs.lemmas.List.Concat.{flat_map-append}
-use Rattle.fb_units.proofs.Lists.{all_weaker, all_append}
-use Rattle.fb_units.specs.declared.types.Track.{Track}
-use Rattle.fb_units.specs.declared.types.Request.{Request}
-use Rattle.fb_units.proofs.Each.{all_both, all_map, all_unmapped}
-use Rattle.fb_seek.specs.Positioning.{pos}
-use Rattle.fb_sectormap.specs.LookUp.{track_at}
-use Rattle.fb_service.specs.declared.disk.Disk.{Disk}
-use Rattle.fb_service.specs.declared.passage.Passage.{Passage}
-use Rattle.fb_service.specs.Service.{passages, finish_of, passage_from}
-use Rattle.fb_store.specs.declared.content.Content.{Content}
-use Rattle.fb_store.specs.Writes.{writer_of, unwritten}
-use Rattle.fb_model.specs.PlainReplay.{service, finish, Served, media}
-use Rattle.fb_model.specs.Content.{Written, writes_of, content_by, Medium, content, found, fore_row}
-use Rattle.fb_model.proofs.Passages.{passed_between, written_by}
-use Rattle.fb_store.specs.declared.content.ContentRun.{ContentRun}
-use Rattle.fb_store.specs.Runs.{runs_of, bad_of}
-use Rattle.fb_store.specs.Ranges.{Holding, content_in}
-use Rattle.fb_rows.specs.declared.fore.ForeRow.{ForeRow}
+use Rattle.std.specs.List.{last_or}
+use Rattle.fb_store.specs.Writes.{unwritten}
+use Rattle.fb_model.specs.Content.{content_by, found}
 use Rattle.fb_model.specs.Accepted.{IsRising}
 use Rattle.fb_model.proofs.ContentsUpTo.{is_of_by}
 use Rattle.fb_model.proofs.Written.{content_then as writes_then, is_of, last_joined, own_writes}
-use Rattle.fb_decide.specs.Waiting.{AreByArrival}
-use Rattle.fb_decide.specs.Contents.{found_in, left_by, IsRowOf}
-use Rattle.fb_decide.specs.Making.{all_writes, held_after, Replayed}
+use Rattle.fb_decide.specs.Contents.{found_in, IsRowOf}
+use Rattle.fb_decide.specs.Making.{held_after}
 use Rattle.fb_decide.proofs.Decided.{one_more}
 
 -- ---- what the services so far have left on the disk, and what the ones to come can't have left yet

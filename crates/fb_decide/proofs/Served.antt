@@ -1,37 +1,19 @@
 -- A request is served: the gap before it, when its extents begin, and what the gap and the passages deliver.
-use Rattle.std.proofs.Common.{◌≡◌, ℕ, zero, suc, ◌+◌, ◌<◌, ◌≤◌, ◌^◌, List, [], ◌∷◌, ◌++◌, Bool, map, sym}
-use Rattle.std.proofs.Common.{arith, subst}
-use Rattle.std.specs.List.{AllByRecursion, range_with_len}
-use Rattle.fb_units.proofs.Lists.{all_weaker, all_left, all_right}
-use Rattle.fb_units.specs.declared.types.Track.{Track}
-use Rattle.fb_geometry.specs.Shape.{Shape, IsTrackOf}
-use Rattle.fb_seek.specs.Positioning.{pos}
-use Rattle.fb_sectormap.specs.LookUp.{track_at}
-use Rattle.fb_service.specs.declared.disk.Disk.{Disk}
-use Rattle.fb_service.specs.declared.service.Service.{Service}
-use Rattle.fb_service.specs.declared.passage.Passage.{Passage}
-use Rattle.fb_service.specs.declared.passage.Extent.{Extent}
-use Rattle.fb_service.specs.Service.{passages, media_of, passage_from}
-use Rattle.fb_service.specs.Extents.{passages_of, all_passages_of, FollowOn, IsUnbroken}
-use Rattle.fb_store.specs.Ranges.{Holding}
-use Rattle.fb_wanted.specs.declared.block.Block.{Block}
+use Rattle.fb_decide.proofs.Words.{◌≡◌, ℕ, zero, suc, ◌+◌, ◌<◌, ◌≤◌, ◌^◌, List, [], ◌∷◌, ◌++◌, Bool, map, sym, arith, subst}
+use Rattle.fb_decide.proofs.Words.{AllByRecursion, range_with_len, all_weaker, all_left, all_right, Track, Shape, IsTrackOf, pos, track_at}
+use Rattle.fb_decide.proofs.Words.{Disk, Service, Passage, Extent, passages, media_of, passage_from, passages_of, all_passages_of}
+use Rattle.fb_decide.proofs.Words.{IsUnbroken, Holding, Block, BackRow, DeliveryRow, serving, Past, finished, wanted, Served, IsBest, due}
+use Rattle.fb_decide.proofs.Words.{carried_rows, caught_in_gap, passed_between, Tells, Background, Start, IsServiceOf, served_from}
+use Rattle.fb_decide.proofs.Words.{TellsUpToDate, HasDelivered, HasServed, past_with, held_now}
+use Rattle.fb_service.specs.Extents.{FollowOn}
 use Rattle.fb_rows.specs.declared.gap.Gap.{Gap}
 use Rattle.fb_rows.specs.declared.gap.Plan.{Plan}
-use Rattle.fb_rows.specs.declared.back.BackRow.{BackRow}
 use Rattle.fb_rows.specs.declared.back.BackRow.TheVariants.{Gap as BackGap}
-use Rattle.fb_rows.specs.declared.back.DeliveryRow.{DeliveryRow}
-use Rattle.fb_model.specs.Decisions.{serving}
-use Rattle.fb_model.specs.History.{Past, finished, wanted}
-use Rattle.fb_model.specs.PlainReplay.{Served}
-use Rattle.fb_model.specs.Plans.{IsBest}
-use Rattle.fb_model.specs.Deliveries.{gap_of, missed_in_gap, due, carried_rows, caught_in_gap}
-use Rattle.fb_model.proofs.Passages.{from_on, passed_between}
+use Rattle.fb_model.specs.Deliveries.{gap_of, missed_in_gap}
+use Rattle.fb_model.proofs.Passages.{from_on}
 use Rattle.fb_plan.specs.Ways.{IsGap}
-use Rattle.fb_tasks.specs.Telling.{Tells}
-use Rattle.fb_decide.specs.declared.background.Background.{Background}
-use Rattle.fb_decide.specs.declared.start.Start.{Start}
-use Rattle.fb_decide.specs.Start.{IsStartOn, IsServiceOf, served_from}
-use Rattle.fb_decide.specs.Deliveries.{TellsUpToDate, HasDelivered, HasDeliveredAround, HasServed, past_with, held_now}
+use Rattle.fb_decide.specs.Start.{IsStartOn}
+use Rattle.fb_decide.specs.Deliveries.{HasDeliveredAround}
 use Rattle.fb_decide.proofs.Delivering.{delivered-join}
 
 -- the first passage begins when the head has come to its track

@@ -1,40 +1,21 @@
 -- What one decision adds to a run.
-use Rattle.std.proofs.Common.{◌≡◌, ℕ, ◌<◌, ◌≤◌, List, [], ◌∷◌, ◌++◌, length, map, refl, ap, sym, subst, ◌∙◌, arith, append_assoc}
-use Rattle.std.proofs.Common.{append-nil}
-use Rattle.std.specs.List.{AllByRecursion}
-use Rattle.fb_units.proofs.Lists.{all_weaker}
-use Rattle.fb_units.specs.declared.types.Request.{Request}
-use Rattle.fb_wanted.specs.declared.block.Block.{Block}
+use Rattle.fb_decide.proofs.Words.{◌≡◌, ℕ, ◌<◌, ◌≤◌, List, [], ◌∷◌, ◌++◌, length, map, refl, ap, sym, subst, ◌∙◌, arith, append_assoc}
+use Rattle.fb_decide.proofs.Words.{append-nil, AllByRecursion, all_weaker, Request, Block, DeliveryRow, BackRow, wanted_all, Inputs}
+use Rattle.fb_decide.proofs.Words.{IsRequestOf, contents_at, medium_of, Served, service, Decision, serves, idles, ends, instant_of, end_of}
+use Rattle.fb_decide.proofs.Words.{Act, serving, idling, ending, decision_of, due, caught_rows, Past, tested, tasks, registered, wanted}
+use Rattle.fb_decide.proofs.Words.{bare_state, Delivery, Step, decision_in, chosen_past, past_after, with_delivery, step_rows}
+use Rattle.fb_decide.proofs.Words.{delivery_rows, chosen_by, IsTested, delivery_of, Tells, IsBlockOf, Background, Course, IsCalled}
+use Rattle.fb_decide.proofs.Words.{tested_by, test_rows_by, HasDelivered, HasServed, IsRegistered, followed, past_with, held_now, Mirrors}
+use Rattle.fb_decide.proofs.Words.{IsFoundIn, IsTrue, HasServedNext, HasStayed, dwell_until, ready_to_act, IsMade, DeliversBy}
 use Rattle.fb_rows.specs.declared.gap.How.TheVariants.{Idle as ByIdle}
-use Rattle.fb_rows.specs.declared.back.DeliveryRow.{DeliveryRow}
-use Rattle.fb_rows.specs.declared.back.BackRow.{BackRow}
-use Rattle.fb_model.proofs.Due.{wanted_all}
-use Rattle.fb_model.specs.Inputs.{Inputs}
-use Rattle.fb_model.specs.Accepted.{IsRequestOf}
-use Rattle.fb_model.specs.Content.{contents_at, medium_of}
-use Rattle.fb_model.specs.PlainReplay.{Served, service}
-use Rattle.fb_model.specs.Decisions.{Decision, serves, idles, ends, instant_of, end_of, Act, serving, idling, ending, decision_of}
-use Rattle.fb_model.specs.Deliveries.{due, caught_rows}
-use Rattle.fb_model.specs.History.{Past, tested, tasks, registered, wanted, bare_state}
-use Rattle.fb_model.specs.Steps.{Delivery, Step, decision_in, chosen_past, past_after, with_delivery, with_finish, opening, step_rows}
-use Rattle.fb_model.specs.Steps.{delivery_rows, chosen_by}
-use Rattle.fb_model.specs.SoundRun.{IsTested}
+use Rattle.fb_model.specs.Steps.{with_finish, opening}
 use Rattle.fb_model.specs.FullRun.{HasBestPlan}
-use Rattle.fb_tasks.specs.Taken.{delivery_of}
-use Rattle.fb_tasks.specs.Telling.{Tells, IsBlockOf}
-use Rattle.fb_decide.specs.declared.background.Background.{Background}
-use Rattle.fb_decide.specs.declared.deciding.Course.{Course}
-use Rattle.fb_decide.specs.Calls.{IsCalled, HasPrepared, tested_by, test_rows_by}
-use Rattle.fb_decide.specs.Deliveries.{HasDelivered, HasServed, IsRegistered, followed, past_with, held_now}
-use Rattle.fb_decide.specs.Standing.{Mirrors, IsFoundIn, IsTrue}
-use Rattle.fb_decide.specs.Deciding.{HasServedNext, HasStayed, dwell_until, ready_to_act}
-use Rattle.fb_decide.specs.Making.{IsMade}
+use Rattle.fb_decide.specs.Calls.{HasPrepared}
 use Rattle.fb_tasks.proofs.Calls.{called-finished}
 use Rattle.fb_decide.proofs.Calling.{called_delivered}
 use Rattle.fb_decide.proofs.Truth.{LeftBy, step_by, decision_true, after_true}
 use Rattle.fb_decide.proofs.Mirroring.{held_until, held_between, media_held, media_before, finish_held}
 use Rattle.fb_model.proofs.Steps.{best_is_plan}
-use Rattle.fb_model.proofs.DueUpTo.{DeliversBy}
 use Rattle.fb_decide.proofs.Due.{due_found, due_same}
 
 -- a step was made, and the disk and the background are as it leaves them

@@ -1,51 +1,32 @@
 -- What deliveries found is true from decision to decision, and the rows of a decision are the disk's own.
-use Rattle.std.proofs.Common.{◌≡◌, ℕ, ◌<◌, ◌≤◌, ◌==◌, ◌&&◌, ◌||◌, not, if◌then◌else◌, List, [], ◌∷◌, ◌++◌, Bool, true, false}
-use Rattle.std.proofs.Common.{length, refl, ap, sym, ◌∙◌, arith, ◌+◌, ◌⊎◌, Option, Some, None, inl, inr, map, ap₂, subst}
-use Rattle.std.specs.List.{fold, list_any, slice_index_or, AllByRecursion, range_with_len}
-use Rattle.std.proofs.lemmas.Bool.{true≢false, cases_Bool}
-use Rattle.std.proofs.lemmas.Bool.Decides.{nat_tests}
-use Rattle.fb_units.specs.declared.types.Request.{Request}
-use Rattle.fb_units.proofs.Lists.{all_range, all_weaker}
-use Rattle.fb_units.proofs.Alike.{map_same}
-use Rattle.fb_geometry.specs.Shape.{Shape}
-use Rattle.fb_script.specs.declared.call.Action.{Action}
+use Rattle.fb_decide.proofs.Words.{◌≡◌, ℕ, ◌<◌, ◌≤◌, ◌==◌, ◌&&◌, ◌||◌, not, if◌then◌else◌, List, [], ◌∷◌, ◌++◌, Bool, true, false, length}
+use Rattle.fb_decide.proofs.Words.{refl, ap, sym, ◌∙◌, arith, ◌+◌, ◌⊎◌, Option, Some, None, inl, inr, map, ap₂, subst, fold, list_any}
+use Rattle.fb_decide.proofs.Words.{AllByRecursion, range_with_len, true≢false, cases_Bool, nat_tests, Request, all_weaker, map_same, Shape}
+use Rattle.fb_decide.proofs.Words.{Action, Call, runs_of, Holding, content_in, Block, State, is_delivered, BackRow, Medium, contents_at}
+use Rattle.fb_decide.proofs.Words.{Event, called, chose, tested, Past, tasks, registered, bare_state, content_of, is_open_backup}
+use Rattle.fb_decide.proofs.Words.{same_block, delivered, finished, Step, take_call, calls_due, with_delivery, chosen_past, past_after}
+use Rattle.fb_decide.proofs.Words.{chosen_by, held_at_delivery, test_rows, test_rows_by, tested_by, IsRegistered, followed, past_with}
+use Rattle.fb_decide.proofs.Words.{IsTrue, Mirrors, IsFoundIn, by_all, Content, writer_of, DeliveryRow, IsTested, delivery_of, rows_after}
+use Rattle.fb_decide.proofs.Words.{left_by, Entry, Inputs, Decision, serves, idles, ends, instant_of, Act, serving, idling, ending}
+use Rattle.fb_decide.proofs.Words.{decision_of, Session, Tells}
+use Rattle.std.specs.List.{slice_index_or}
+use Rattle.fb_units.proofs.Lists.{all_range}
 use Rattle.fb_script.specs.declared.call.Action.TheVariants.{Open}
-use Rattle.fb_script.specs.declared.call.Call.{Call}
 use Rattle.fb_script.specs.declared.call.Kind.TheVariants.{Plain}
 use Rattle.fb_script.specs.Sessions.{is_backup}
-use Rattle.fb_store.specs.Runs.{runs_of}
-use Rattle.fb_store.specs.Ranges.{Holding, content_in}
-use Rattle.fb_wanted.specs.declared.block.Block.{Block}
-use Rattle.fb_wanted.specs.declared.block.State.{State}
 use Rattle.fb_wanted.specs.declared.block.State.TheVariants.{Wanted, Aborted}
-use Rattle.fb_wanted.specs.States.{is_delivered, shares}
-use Rattle.fb_rows.specs.declared.back.BackRow.{BackRow}
-use Rattle.fb_model.specs.Content.{Medium, contents_at}
-use Rattle.fb_model.specs.History.{Event, called, chose, tested, Past, LogSegment, Terms, tasks, terms_of, registered, bare_state}
-use Rattle.fb_model.specs.History.{content_of, is_sealed, is_seal_of, is_open_backup, ends_block, same_block, opened_by, delivered}
-use Rattle.fb_model.specs.History.{finished}
-use Rattle.fb_model.specs.Steps.{Step, take_call, calls_due, with_delivery, chosen_past, past_after, chosen_by}
-use Rattle.fb_model.specs.Images.{held_at_delivery, test_rows, findings}
-use Rattle.fb_decide.specs.Calls.{test_rows_by, tested_by}
-use Rattle.fb_decide.specs.Deliveries.{IsRegistered, followed, past_with}
-use Rattle.fb_decide.specs.Standing.{IsTrue, Mirrors, IsFoundIn}
-use Rattle.fb_model.proofs.Events.{by_all, by_calls}
+use Rattle.fb_wanted.specs.States.{shares}
+use Rattle.fb_model.specs.History.{LogSegment, Terms, terms_of}
+use Rattle.fb_model.specs.History.{is_sealed, is_seal_of, ends_block, opened_by}
+use Rattle.fb_model.specs.Images.{findings}
+use Rattle.fb_model.proofs.Events.{by_calls}
 use Rattle.fb_model.proofs.Views.{index_other}
 use Rattle.fb_decide.proofs.RegisteredBlocks.{AreOpened, all_in, there_before, tasks_more, AreOwn, AreDistinct, still_there, distinct-kept}
 use Rattle.fb_decide.proofs.RegisteredBlocks.{opened-kept, opened-told, own-told, distinct-told}
-use Rattle.fb_store.specs.declared.content.Content.{Content}
 use Rattle.fb_store.specs.declared.content.Content.TheVariants.{Filled}
-use Rattle.fb_store.specs.Writes.{after_write, is_within, writer_of}
-use Rattle.fb_rows.specs.declared.back.DeliveryRow.{DeliveryRow}
-use Rattle.fb_model.specs.SoundRun.{AreFollowed, IsTested}
-use Rattle.fb_tasks.specs.Taken.{delivery_of, rows_after}
-use Rattle.fb_decide.specs.Contents.{left_by}
+use Rattle.fb_store.specs.Writes.{after_write, is_within}
+use Rattle.fb_model.specs.SoundRun.{AreFollowed}
 use Rattle.fb_decide.proofs.DiskRows.{mirrored, rows-true}
-use Rattle.fb_wanted.specs.declared.block.Entry.{Entry}
-use Rattle.fb_model.specs.Inputs.{Inputs}
-use Rattle.fb_model.specs.Decisions.{Decision, serves, idles, ends, instant_of, Act, serving, idling, ending, decision_of}
-use Rattle.fb_tasks.specs.declared.session.Session.{Session}
-use Rattle.fb_tasks.specs.Telling.{Tells}
 
 -- ---- calls, choices and tests deliver nothing and overwrite nothing: what deliveries found stays true
 

@@ -1,33 +1,14 @@
 -- While no write is under way, a sector that an event concerned holds in the replacement what it holds on the survivor.
-use Rattle.std.proofs.Common.{◌≡◌, ◌⊎◌, ℕ, ◌<◌, ◌≤◌, List, [], ◌∷◌, ◌++◌, map, Option, Some, None, Bool, true, false, refl, ap, ap₂, sym}
-use Rattle.std.proofs.Common.{subst, ◌∙◌, arith, inl, inr, append-nil, nat_le}
-use Rattle.std.specs.Prelude.{filter, if◌then◌else◌}
-use Rattle.std.specs.List.{AllByRecursion, flat_map}
-use Rattle.std.specs.Option.{option_map}
-use Rattle.std.proofs.lemmas.Bool.{cases_Bool, cases_lt}
-use Rattle.std.proofs.lemmas.List.{map-append}
-use Rattle.std.proofs.lemmas.List.Elements.{filter-append}
-use Rattle.std.proofs.lemmas.List.Concat.{flat_map-append}
-use Rattle.std.proofs.lemmas.Option.{same_Some, none-some}
-use Rattle.fb_units.proofs.Lists.{all_append, all_left, all_weaker, same_first, same_rest}
-use Rattle.fb_units.proofs.Each.{all_unmapped}
-use Rattle.fb_units.proofs.Comparing.{after_is, by_is, is_by}
-use Rattle.fb_geometry.specs.Sound.{IsSound}
-use Rattle.fb_service.specs.declared.disk.Disk.{Disk}
-use Rattle.fb_store.specs.declared.content.Content.{Content}
-use Rattle.fb_store.specs.Sparse.{after_taking}
-use Rattle.fb_store.specs.Runs.{sectors_of}
-use Rattle.fb_rows.specs.declared.fore.ForeRow.{ForeRow}
-use Rattle.fb_rows.specs.declared.run.Run.{Run}
-use Rattle.fb_model.specs.PlainReplay.{Served, finish, media}
-use Rattle.fb_model.specs.Inputs.{Inputs, served}
-use Rattle.fb_model.specs.Accepted.{IsAccepted}
-use Rattle.fb_model.specs.Content.{Medium, Written, content, fore_row, fore_rows, medium_of, writes_of}
-use Rattle.fb_model.specs.FullRun.{IsFull}
-use Rattle.fb_model.specs.Laws.{ForegroundListsAscend, OnePlainReplay}
-use Rattle.fb_model.proofs.Passages.{served_between}
-use Rattle.fb_mirror.specs.Replacement.{Event, decided, deliveries_in, events, given, held_after, later, writes_in}
-use Rattle.fb_mirror.specs.Survivor.{IsAtRest, events_by}
+use Rattle.fb_mirror.proofs.Words.{◌≡◌, ◌⊎◌, ℕ, ◌<◌, ◌≤◌, List, [], ◌∷◌, ◌++◌, map, Option, Some, None, Bool, true, false, refl, ap, ap₂}
+use Rattle.fb_mirror.proofs.Words.{sym, subst, ◌∙◌, arith, inl, inr, append-nil, nat_le, filter, if◌then◌else◌, AllByRecursion, flat_map}
+use Rattle.fb_mirror.proofs.Words.{option_map, cases_Bool, cases_lt, map-append, filter-append, flat_map-append, same_Some, none-some}
+use Rattle.fb_mirror.proofs.Words.{all_append, all_left, all_weaker, all_unmapped, by_is, is_by, IsSound, Disk, Content, after_taking}
+use Rattle.fb_mirror.proofs.Words.{sectors_of, ForeRow, Run, Served, finish, media, Inputs, served, IsAccepted, Medium, Written, content}
+use Rattle.fb_mirror.proofs.Words.{fore_row, fore_rows, medium_of, writes_of, IsFull, ForegroundListsAscend, OnePlainReplay}
+use Rattle.fb_mirror.proofs.Words.{served_between, Event, decided, deliveries_in, events, given, held_after, later, writes_in, IsAtRest}
+use Rattle.fb_mirror.proofs.Words.{events_by}
+use Rattle.fb_units.proofs.Lists.{same_first, same_rest}
+use Rattle.fb_units.proofs.Comparing.{after_is}
 use Rattle.fb_mirror.proofs.Survival.{IsFoundAfter, back_found, decided-append, one_decides, rows_found, some_decided, survives_all, wrote}
 use Rattle.fb_mirror.proofs.Writing.{AreServed, all_late, all_writes, are_served, content_then, ended, free_until, late, medium_with}
 

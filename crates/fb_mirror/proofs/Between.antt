@@ -1,24 +1,13 @@
 -- When decisions and their deliveries are: all writes have passed before, or pass after.
-use Rattle.std.proofs.Common.{◌≡◌, ℕ, ◌<◌, ◌≤◌, max, List, [], ◌∷◌, ◌++◌, Bool, true, false, refl, ap, arith, inl, inr, nat_le}
-use Rattle.std.specs.Prelude.{filter, nat_lt, if◌then◌else◌}
-use Rattle.std.specs.List.{AllByRecursion, fold}
-use Rattle.std.proofs.lemmas.Bool.{cases_Bool}
-use Rattle.std.proofs.lemmas.Bool.Decides.{nat_tests}
-use Rattle.fb_units.proofs.Each.{all_any, all_pass}
-use Rattle.fb_units.proofs.Lists.{all_weaker, all_append}
-use Rattle.fb_units.specs.declared.types.Track.{Track}
-use Rattle.fb_units.proofs.Comparing.{is_by}
-use Rattle.fb_geometry.specs.Sound.{IsSound}
-use Rattle.fb_service.specs.declared.disk.Disk.{Disk}
-use Rattle.fb_wanted.specs.declared.block.Block.{Block}
-use Rattle.fb_rows.specs.declared.back.DeliveryRow.{DeliveryRow}
-use Rattle.fb_model.specs.PlainReplay.{Served, finish, last_track, media}
-use Rattle.fb_model.specs.Content.{contents_at, Medium, Written, writes_of}
-use Rattle.fb_model.specs.Decisions.{Decision, serves, idles, ends, instant_of, Act, decision_of, idle_until, last_decision, decisions_from}
-use Rattle.fb_model.specs.SoundRun.{HasPlan}
-use Rattle.fb_model.proofs.Due.{IsDueRow}
-use Rattle.fb_model.proofs.Passages.{IsServiceOf, LiesOnDisk, media_by}
-use Rattle.fb_model.proofs.DecisionsUpTo.{IsMade, greatest_from}
+use Rattle.fb_mirror.proofs.Words.{◌≡◌, ℕ, ◌<◌, ◌≤◌, max, List, [], ◌∷◌, ◌++◌, Bool, true, false, refl, ap, arith, inl, inr, nat_le}
+use Rattle.fb_mirror.proofs.Words.{filter, nat_lt, if◌then◌else◌, AllByRecursion, fold, cases_Bool, nat_tests, all_any, all_weaker}
+use Rattle.fb_mirror.proofs.Words.{all_append, Track, is_by, IsSound, Disk, Block, DeliveryRow, Served, finish, last_track, media}
+use Rattle.fb_mirror.proofs.Words.{contents_at, Medium, Written, writes_of, Decision, serves, instant_of, Act, decision_of, idle_until}
+use Rattle.fb_mirror.proofs.Words.{last_decision, decisions_from, HasPlan, IsDueRow, IsServiceOf, LiesOnDisk, greatest_from}
+use Rattle.fb_units.proofs.Each.{all_pass}
+use Rattle.fb_model.specs.Decisions.{idles, ends}
+use Rattle.fb_model.proofs.Passages.{media_by}
+use Rattle.fb_model.proofs.DecisionsUpTo.{IsMade}
 use Rattle.fb_model.proofs.DueUpTo.{LiesBetween, DeliversBy, due_between}
 use Rattle.fb_mirror.proofs.Writing.{AreServed, all_late, all_writes, ended, free_until, free_within, late}
 

@@ -1,8 +1,6 @@
 -- The lines of a copy by their index.
-use Rattle.std.proofs.Common.{◌≡◌, ℕ, zero, suc, ◌-◌, ◌<◌, ◌≤◌, List, [], ◌∷◌, ◌++◌, length, map, slice_get, Some, refl, ap, ◌∙◌, arith}
-use Rattle.std.proofs.lemmas.Option.{same_Some}
-use Rattle.fb_store.specs.declared.content.ContentRun.{ContentRun}
-use Rattle.fb_mirror.specs.Copy.{run_line}
+use Rattle.fb_mirror.proofs.Words.{◌≡◌, ℕ, zero, suc, ◌-◌, ◌<◌, ◌≤◌, List, [], ◌∷◌, ◌++◌, length, map, slice_get, Some, refl, ap, ◌∙◌}
+use Rattle.fb_mirror.proofs.Words.{arith, same_Some, ContentRun, run_line}
 
 at_run : (runs : List ContentRun) (last : List ℕ) (i : ℕ) (run : ContentRun) → slice_get runs i ≡ Some run
     → slice_get (map run_line runs ++ last ∷ []) i ≡ Some (run_line run)

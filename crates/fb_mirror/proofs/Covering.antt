@@ -1,26 +1,17 @@
 -- The runs of a disk over which contents were taken.
-use Rattle.std.proofs.Common.{◌≡◌, ℕ, ◌+◌, ◌<◌, ◌≤◌, List, [], ◌∷◌, ◌++◌, map, length, Option, Some, None, Bool, cond, refl, sym}
-use Rattle.std.proofs.Common.{ap, ap₂, ◌∙◌, arith, append-nil, inl, inr}
-use Rattle.std.specs.Prelude.{filter, is_some, ◌&&◌, ◌==◌}
-use Rattle.std.specs.List.{AllByRecursion, range_with_len, sum_by}
-use Rattle.std.specs.Option.{unwrap_or}
-use Rattle.std.proofs.lemmas.Bool.{cases_Bool}
-use Rattle.std.proofs.lemmas.List.{length-append, length-map}
-use Rattle.std.proofs.lemmas.List.FromFn.{length-range_with_len}
+use Rattle.fb_mirror.proofs.Words.{◌≡◌, ℕ, ◌+◌, ◌<◌, ◌≤◌, List, [], ◌∷◌, ◌++◌, map, length, Option, Some, None, Bool, cond, refl, sym, ap}
+use Rattle.fb_mirror.proofs.Words.{ap₂, ◌∙◌, arith, append-nil, inl, inr, filter, is_some, ◌&&◌, ◌==◌, AllByRecursion, range_with_len}
+use Rattle.fb_mirror.proofs.Words.{sum_by, unwrap_or, cases_Bool, length-append, length-range_with_len, all_any, all_weaker, Content}
+use Rattle.fb_mirror.proofs.Words.{Unreadable, ContentRun, runs_of, sectors_in, sectors_of, after_taking, held_in, EndsBy, inside}
+use Rattle.fb_mirror.proofs.Words.{sectors_of-runs_of, taken_block, Event, IsWithin}
+use Rattle.std.proofs.lemmas.List.{length-map}
 use Rattle.std.proofs.lemmas.List.Sums.{sum_by-cons}
 use Rattle.fb_units.proofs.Alike.{filter_same}
 use Rattle.fb_units.proofs.Counts.{filter-le}
-use Rattle.fb_units.proofs.Each.{all_any}
-use Rattle.fb_units.proofs.Lists.{all_weaker}
-use Rattle.fb_store.specs.declared.content.Content.{Content}
-use Rattle.fb_store.specs.declared.content.Content.TheVariants.{Unreadable}
-use Rattle.fb_store.specs.declared.content.ContentRun.{ContentRun}
-use Rattle.fb_store.specs.Runs.{runs_of, sectors_in, sectors_of, same_content, with_content}
-use Rattle.fb_store.specs.Sparse.{after_taking, held_sector, held_in, EndsBy}
-use Rattle.fb_store.proofs.Originals.{inside, after}
-use Rattle.fb_store.proofs.Runs.{sectors_of-runs_of}
-use Rattle.fb_store.proofs.Taken.{taken_block, taken_past, held_all}
-use Rattle.fb_mirror.specs.Replacement.{Event, IsWithin}
+use Rattle.fb_store.specs.Runs.{same_content, with_content}
+use Rattle.fb_store.specs.Sparse.{held_sector}
+use Rattle.fb_store.proofs.Originals.{after}
+use Rattle.fb_store.proofs.Taken.{taken_past, held_all}
 use Rattle.fb_mirror.proofs.Taking.{over, taken_over}
 
 -- what is held of some sectors, told by another function

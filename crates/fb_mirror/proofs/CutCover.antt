@@ -1,11 +1,7 @@
 -- The blocks that are cut from a range are the range.
-use Rattle.std.proofs.Common.{◌≡◌, ℕ, zero, suc, ◌+◌, ◌<◌, ◌≤◌, List, [], ◌∷◌, Bool, true, false, refl, arith, inl, inr, subst}
-use Rattle.std.specs.Prelude.{if◌then◌else◌}
-use Rattle.std.specs.List.{AllByRecursion}
-use Rattle.std.proofs.lemmas.Bool.{cases_lt}
-use Rattle.fb_geometry.specs.Shape.{Shape}
-use Rattle.fb_sectormap.specs.declared.cut.Cut.{Cut}
-use Rattle.fb_sectormap.specs.Cutting.{cut_of, cutting, is_cut_before, with_sector}
+use Rattle.fb_mirror.proofs.Words.{◌≡◌, ℕ, zero, suc, ◌+◌, ◌<◌, ◌≤◌, List, [], ◌∷◌, Bool, true, false, refl, arith, inl, inr, subst}
+use Rattle.fb_mirror.proofs.Words.{if◌then◌else◌, AllByRecursion, cases_lt, Shape, Cut, cutting}
+use Rattle.fb_sectormap.specs.Cutting.{cut_of, is_cut_before, with_sector}
 
 abbrev BeginsAt : ℕ → List Cut → Type 0
 BeginsAt lbn [] = Unit {0}

@@ -1,17 +1,7 @@
 -- The event that decides, over the changes of single runs.
-use Rattle.std.proofs.Common.{◌≡◌, ℕ, List, [], ◌∷◌, ◌++◌, map, Option, Some, None, true, false, refl, sym, ap, ap₂, ◌∙◌, arith, inl, inr}
-use Rattle.std.specs.Prelude.{nat_lt}
-use Rattle.std.specs.Option.{option_map}
-use Rattle.std.proofs.lemmas.Bool.{cases_Bool}
-use Rattle.std.proofs.lemmas.Bool.Decides.{nat_tests}
-use Rattle.fb_store.specs.declared.content.Content.{Content}
-use Rattle.fb_store.specs.declared.content.ContentRun.{ContentRun}
-use Rattle.fb_store.specs.Runs.{sectors_in, sectors_of}
-use Rattle.fb_store.specs.Sparse.{after_taking}
-use Rattle.fb_store.proofs.Taken.{after_taking-append}
-use Rattle.fb_mirror.specs.declared.changes.Change.{Change}
-use Rattle.fb_mirror.specs.Changes.{changes_in, changes_of}
-use Rattle.fb_mirror.specs.Replacement.{Event, later, decided}
+use Rattle.fb_mirror.proofs.Words.{◌≡◌, ℕ, List, [], ◌∷◌, ◌++◌, map, Option, Some, None, true, false, refl, sym, ap, ap₂, ◌∙◌, arith, inl}
+use Rattle.fb_mirror.proofs.Words.{inr, nat_lt, option_map, cases_Bool, nat_tests, Content, ContentRun, sectors_in, sectors_of}
+use Rattle.fb_mirror.proofs.Words.{after_taking, after_taking-append, Change, changes_in, changes_of, Event, later, decided}
 use Rattle.fb_mirror.proofs.Taking.{over, taken_over}
 
 abbrev pub dated : ℕ → Option Content → Option (ℕ × Content)

@@ -1,24 +1,11 @@
 -- What events give sectors, and which event decides.
-use Rattle.std.proofs.Common.{◌≡◌, ℕ, ◌<◌, ◌≤◌, List, [], ◌∷◌, ◌++◌, Option, Some, None, Bool, true, false, cond, refl, sym, ap, ◌∙◌, arith}
-use Rattle.std.proofs.Common.{append-nil, inl, inr, subst}
-use Rattle.std.specs.Prelude.{nat_lt}
-use Rattle.std.specs.List.{AllByRecursion}
-use Rattle.std.specs.Option.{option_map}
-use Rattle.std.proofs.lemmas.Bool.{cases_Bool}
-use Rattle.std.proofs.lemmas.Bool.Decides.{nat_tests}
-use Rattle.std.proofs.lemmas.Option.{none-some, same_Some}
-use Rattle.fb_units.proofs.Lists.{all_append, all_weaker}
-use Rattle.fb_store.specs.declared.content.Content.{Content}
-use Rattle.fb_store.specs.declared.content.Content.TheVariants.{Filled}
-use Rattle.fb_store.specs.declared.content.ContentRun.{ContentRun}
-use Rattle.fb_store.specs.Runs.{sectors_in, sectors_of}
-use Rattle.fb_store.specs.Sparse.{Gives, after_taking}
-use Rattle.fb_store.specs.Writes.{is_within, writer_of}
-use Rattle.fb_store.proofs.Taken.{taken_block}
-use Rattle.fb_rows.specs.declared.back.BackRow.TheVariants.{Got}
-use Rattle.fb_rows.specs.declared.back.DeliveryRow.{DeliveryRow}
-use Rattle.fb_rows.specs.declared.fore.ForeRow.{ForeRow}
-use Rattle.fb_mirror.specs.Replacement.{Event, given, later, decided, Decides, writes_in, deliveries_in}
+use Rattle.fb_mirror.proofs.Words.{◌≡◌, ℕ, ◌<◌, ◌≤◌, List, [], ◌∷◌, ◌++◌, Option, Some, None, Bool, true, false, cond, refl, sym, ap, ◌∙◌}
+use Rattle.fb_mirror.proofs.Words.{arith, append-nil, inl, inr, subst, nat_lt, AllByRecursion, option_map, cases_Bool, nat_tests}
+use Rattle.fb_mirror.proofs.Words.{none-some, same_Some, all_append, all_weaker, Content, Filled, ContentRun, sectors_in, sectors_of}
+use Rattle.fb_mirror.proofs.Words.{after_taking, is_within, writer_of, taken_block, Got, DeliveryRow, ForeRow, Event, given, later}
+use Rattle.fb_mirror.proofs.Words.{decided, writes_in, deliveries_in}
+use Rattle.fb_store.specs.Sparse.{Gives}
+use Rattle.fb_mirror.specs.Replacement.{Decides}
 
 one_decides : (within : Bool) (instant : ℕ) (content : Content) (held : Option Content) → held ≡ cond within (Some content) None
     → later (option_map (λ c. (instant, c)) held) None ≡ cond within (Some (instant, content)) None

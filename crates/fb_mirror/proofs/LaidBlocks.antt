@@ -1,35 +1,21 @@
 -- Whatever blocks a run registers are sectors of its disk.
-use Rattle.std.proofs.Common.{◌≡◌, ℕ, ◌+◌, ◌*◌, ◌≤◌, List, [], ◌∷◌, ◌++◌, length, map, Bool, true, false, refl, ap}
-use Rattle.std.proofs.Common.{sym, subst, arith, inl, inr}
-use Rattle.std.specs.Prelude.{◌==◌, not, if◌then◌else◌}
-use Rattle.std.specs.List.{AllByRecursion, best_of, slice_index_or}
-use Rattle.std.proofs.lemmas.Bool.{cases_Bool, eqb-true}
-use Rattle.std.proofs.lemmas.Bool.Decides.{nat_tests}
-use Rattle.std.proofs.lemmas.List.{length-append}
-use Rattle.fb_units.proofs.Lists.{all_append, all_filter}
-use Rattle.fb_units.specs.Rising.{IsRising}
+use Rattle.fb_mirror.proofs.Words.{◌≡◌, ℕ, ◌+◌, ◌≤◌, List, [], ◌∷◌, ◌++◌, length, map, Bool, true, false, refl, ap, sym, subst, arith, inl}
+use Rattle.fb_mirror.proofs.Words.{inr, ◌==◌, not, if◌then◌else◌, AllByRecursion, slice_index_or, cases_Bool, eqb-true, nat_tests}
+use Rattle.fb_mirror.proofs.Words.{length-append, all_append, all_filter, IsRising, Shape, places, Cut, cutting, Open, Want, Call, Plain}
+use Rattle.fb_mirror.proofs.Words.{Terms, is_clean, Block, IsAccepted, Inputs, Decision, Past, blocks_of, calls_of, registered, tasks}
+use Rattle.fb_mirror.proofs.Words.{terms_of, segments, work, Step, decision_in, past_after, chosen_past, take_call}
+use Rattle.std.proofs.Common.{◌*◌}
+use Rattle.std.specs.List.{best_of}
 use Rattle.fb_units.proofs.Each.{all_best}
-use Rattle.fb_geometry.specs.Shape.{Shape}
-use Rattle.fb_geometry.specs.Places.{places}
-use Rattle.fb_sectormap.specs.declared.cut.Cut.{Cut}
-use Rattle.fb_sectormap.specs.Cutting.{cutting}
 use Rattle.fb_script.specs.declared.call.Action.{Action}
-use Rattle.fb_script.specs.declared.call.Action.TheVariants.{Open, Want, Segment}
-use Rattle.fb_script.specs.declared.call.Call.{Call}
-use Rattle.fb_script.specs.declared.call.Kind.TheVariants.{Plain}
+use Rattle.fb_script.specs.declared.call.Action.TheVariants.{Segment}
 use Rattle.fb_script.specs.Allowed as allowed
-use Rattle.fb_script.specs.Allowed.{AreAllowed, MayAsk, Terms, terms_in}
+use Rattle.fb_script.specs.Allowed.{AreAllowed, MayAsk, terms_in}
 use Rattle.fb_script.specs.Blocks.{live_cuts}
-use Rattle.fb_script.specs.Sessions.{is_clean}
-use Rattle.fb_wanted.specs.declared.block.Block.{Block}
-use Rattle.fb_model.specs.Accepted.{IsAccepted}
-use Rattle.fb_model.specs.Inputs.{Inputs}
-use Rattle.fb_model.specs.Decisions.{Decision}
-use Rattle.fb_model.specs.History.{LogSegment, Past, blocks_of, calls_of, opened_by, registered}
-use Rattle.fb_model.specs.History.{tasks, terms_of}
-use Rattle.fb_model.specs.Completion.{segment_by, segments, work}
+use Rattle.fb_model.specs.History.{LogSegment, opened_by}
+use Rattle.fb_model.specs.Completion.{segment_by}
 use Rattle.fb_model.specs.Segments.{is_better, is_chosen, next_blocks}
-use Rattle.fb_model.specs.Steps.{Step, decision_in, blocks_by, past_after, chosen_past, take_call}
+use Rattle.fb_model.specs.Steps.{blocks_by}
 use Rattle.fb_model.proofs.Cuts.{all_numbered}
 use Rattle.fb_model.proofs.Events.{ChoiceKeeps}
 use Rattle.fb_model.proofs.Histories.{opened_more, opened_same, EventsKeep, HoldsSoFar, chosen_holds, after_holds}

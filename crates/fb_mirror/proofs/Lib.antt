@@ -1,3 +1,4 @@
+pub mod Words
 pub mod ScriptRead
 pub mod CopyLines
 pub mod Listing

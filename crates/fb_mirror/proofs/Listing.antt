@@ -1,17 +1,13 @@
 -- Lists that grow with the rows that were seen.
-use Rattle.std.proofs.Common.{◌≡◌, ℕ, ◌+◌, List, [], ◌∷◌, ◌++◌, map, take, drop, slice_get, Option, Some, refl, sym, ap, ◌∙◌}
-use Rattle.std.proofs.Common.{append_assoc, append-nil}
-use Rattle.std.specs.List.{flat_map}
+use Rattle.fb_mirror.proofs.Words.{◌≡◌, ℕ, ◌+◌, List, [], ◌∷◌, ◌++◌, map, take, drop, slice_get, Option, Some, refl, sym, ap, ◌∙◌}
+use Rattle.fb_mirror.proofs.Words.{append-nil, flat_map, map-append, BackRow, Got, Seal, ContentRun, Change, changes_in, changes_of, Event}
+use Rattle.fb_mirror.proofs.Words.{sealed_in}
+use Rattle.std.proofs.Common.{append_assoc}
 use Rattle.std.proofs.lemmas.Grind.{flat_map-append}
-use Rattle.std.proofs.lemmas.List.{map-append}
 use Rattle.fb_units.proofs.Lists.{drop_at, take_at}
-use Rattle.fb_rows.specs.declared.back.BackRow.{BackRow}
-use Rattle.fb_rows.specs.declared.back.BackRow.TheVariants.{Gap, Idle, Got, Bad, Seal, Segment, Complete, Task}
+use Rattle.fb_rows.specs.declared.back.BackRow.TheVariants.{Gap, Idle, Bad, Segment, Complete, Task}
 use Rattle.fb_rows.specs.declared.back.SealRow.{SealRow}
-use Rattle.fb_store.specs.declared.content.ContentRun.{ContentRun}
-use Rattle.fb_mirror.specs.declared.changes.Change.{Change}
-use Rattle.fb_mirror.specs.Changes.{changes_in, changes_of}
-use Rattle.fb_mirror.specs.Replacement.{Event, sealed_by, sealed_in}
+use Rattle.fb_mirror.specs.Replacement.{sealed_by}
 
 -- the changes of the rows so far, and of the next row
 pub row_added : {X : Type 0} (f : X → List Event) (rows : List X) (i : ℕ) (row : X) (old now new : List Change)

@@ -1,32 +1,11 @@
 -- The events of a full run concern sectors of its disk alone.
-use Rattle.std.proofs.Common.{ℕ, ◌+◌, ◌≤◌, List, [], ◌∷◌, length, map, Bool, true, false, sym, subst}
-use Rattle.std.specs.Prelude.{if◌then◌else◌}
-use Rattle.std.specs.List.{AllByRecursion, flat_map}
-use Rattle.fb_units.proofs.Lists.{all_weaker, all_append}
-use Rattle.fb_units.specs.Rising.{IsRising}
-use Rattle.fb_geometry.specs.Places.{places}
-use Rattle.fb_service.specs.declared.disk.Disk.{Disk}
-use Rattle.fb_store.specs.declared.content.Content.TheVariants.{Filled}
-use Rattle.fb_store.specs.declared.content.ContentRun.{ContentRun}
+use Rattle.fb_mirror.proofs.Words.{ℕ, ◌+◌, ◌≤◌, List, [], ◌∷◌, length, map, Bool, true, false, sym, subst, if◌then◌else◌, AllByRecursion}
+use Rattle.fb_mirror.proofs.Words.{flat_map, all_weaker, all_append, IsRising, places, Disk, Filled, ContentRun, BackRow, Got, DeliveryRow}
+use Rattle.fb_mirror.proofs.Words.{Run, Call, IsAccepted, writer_of, contents_at, Medium, content, fore_row, fore_rows, medium_of, IsFull}
+use Rattle.fb_mirror.proofs.Words.{Past, Inputs, served, ForegroundListsAscend, OnePlainReplay, Served, finish, IsDelivered, IsTested}
+use Rattle.fb_mirror.proofs.Words.{AtEach, Delivery, Step, decision_in, step_rows, past_after, chosen_past, HasBytes, IsDueRow, due_block}
+use Rattle.fb_mirror.proofs.Words.{due_bytes, delivery_true, wanted_all, IsWithin, deliveries_in, events, writes_in, sectors}
 use Rattle.fb_store.proofs.Longest.{ends-runs_of-held}
-use Rattle.fb_rows.specs.declared.back.BackRow.{BackRow}
-use Rattle.fb_rows.specs.declared.back.BackRow.TheVariants.{Got}
-use Rattle.fb_rows.specs.declared.back.DeliveryRow.{DeliveryRow}
-use Rattle.fb_rows.specs.declared.run.Run.{Run}
-use Rattle.fb_script.specs.declared.call.Call.{Call}
-use Rattle.fb_model.specs.Accepted.{IsAccepted}
-use Rattle.fb_store.specs.Writes.{writer_of}
-use Rattle.fb_model.specs.Content.{contents_at, Medium, content, fore_row, fore_rows, medium_of}
-use Rattle.fb_model.specs.FullRun.{IsFull}
-use Rattle.fb_model.specs.History.{Past}
-use Rattle.fb_model.specs.Inputs.{Inputs, served}
-use Rattle.fb_model.specs.Laws.{ForegroundListsAscend, OnePlainReplay}
-use Rattle.fb_model.specs.PlainReplay.{Served, finish}
-use Rattle.fb_model.specs.SoundRun.{IsDelivered, IsTested}
-use Rattle.fb_model.specs.Steps.{AtEach, Delivery, Step, decision_in, step_rows, past_after, chosen_past}
-use Rattle.fb_model.proofs.Due.{HasBytes, IsDueRow, due_block, due_bytes, delivery_true, wanted_all}
-use Rattle.fb_mirror.specs.Replacement.{IsWithin, deliveries_in, events, writes_in}
-use Rattle.fb_mirror.specs.Survivor.{sectors}
 use Rattle.fb_mirror.proofs.LaidBlocks.{AreLaid, LiesOn, laid_after, laid_first, laid_chosen}
 use Rattle.fb_mirror.proofs.RunRows.{NoFact, RowsFit, back_fits, gots_fit_step}
 use Rattle.fb_mirror.proofs.Writing.{AreServed, are_served}

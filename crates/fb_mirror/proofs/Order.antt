@@ -1,26 +1,13 @@
 -- Changes that are sorted by their instants, those of one instant in their order.
-use Rattle.std.proofs.Common.{◌≡◌, ℕ, suc, ◌+◌, ◌<◌, ◌≤◌, List, [], ◌∷◌, map, length, get_or, Option, Some, None, Bool, true, false}
-use Rattle.std.proofs.Common.{cond, refl, sym, ap, ◌∙◌, arith, inl, inr, subst}
-use Rattle.std.specs.Prelude.{nat_lt, filter}
-use Rattle.std.specs.Option.{option_map}
+use Rattle.fb_mirror.proofs.Words.{◌≡◌, ℕ, suc, ◌+◌, ◌<◌, ◌≤◌, List, [], ◌∷◌, map, length, Option, Some, None, Bool, true, false, cond}
+use Rattle.fb_mirror.proofs.Words.{refl, sym, ap, ◌∙◌, arith, inl, inr, subst, nat_lt, filter, option_map, AllByRecursion, IsPermutation}
+use Rattle.fb_mirror.proofs.Words.{cases_Bool, cases_lt, nat_tests, all_map, all_append, Content, ContentRun, Unreadable, sectors_in}
+use Rattle.fb_mirror.proofs.Words.{sectors_of, after_taking, after_taking-append, Change, changes_in, changes_of, Event, IsWithin, later}
+use Rattle.std.proofs.Common.{get_or}
 use Rattle.std.specs.Ordering.{is_lt, nat_cmp}
-use Rattle.std.specs.List.{AllByRecursion}
-use Rattle.std.specs.List.Sorted.{IsNonDecreasingBy, IsStableByKey, IsPermutation, ties}
+use Rattle.std.specs.List.Sorted.{IsNonDecreasingBy, IsStableByKey, ties}
 use Rattle.std.proofs.lemmas.List.Sorted.{All-permutation}
 use Rattle.std.proofs.lemmas.List.Elements.{All-from_recursion, recursion_from_All}
-use Rattle.std.proofs.lemmas.Bool.{cases_Bool, cases_lt}
-use Rattle.std.proofs.lemmas.Bool.Decides.{nat_tests}
-use Rattle.fb_units.proofs.Each.{all_map}
-use Rattle.fb_units.proofs.Lists.{all_append}
-use Rattle.fb_store.specs.declared.content.Content.{Content}
-use Rattle.fb_store.specs.declared.content.ContentRun.{ContentRun}
-use Rattle.fb_store.specs.declared.content.Content.TheVariants.{Unreadable}
-use Rattle.fb_store.specs.Runs.{sectors_in, sectors_of}
-use Rattle.fb_store.specs.Sparse.{after_taking}
-use Rattle.fb_store.proofs.Taken.{after_taking-append}
-use Rattle.fb_mirror.specs.declared.changes.Change.{Change}
-use Rattle.fb_mirror.specs.Changes.{changes_in, changes_of}
-use Rattle.fb_mirror.specs.Replacement.{Event, IsWithin, later}
 use Rattle.fb_mirror.proofs.Taking.{over, taken_over}
 use Rattle.fb_mirror.proofs.Deciding.{dated, own, latest}
 

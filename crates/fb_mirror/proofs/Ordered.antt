@@ -1,39 +1,25 @@
 -- Decisions follow one another, and so do the deliveries of each.
-use Rattle.std.proofs.Common.{◌≡◌, ℕ, zero, suc, ◌+◌, ◌-◌, ◌<◌, ◌≤◌, max, List, [], ◌∷◌, ◌++◌, map, Bool, true, false, sym, subst, arith}
-use Rattle.std.proofs.Common.{inl, inr, nat_le}
-use Rattle.std.specs.Prelude.{filter, nat_lt, not, ◌==◌, if◌then◌else◌}
-use Rattle.std.specs.List.{AllByRecursion, fold}
-use Rattle.std.proofs.lemmas.Bool.{cases_Bool}
-use Rattle.std.proofs.lemmas.Bool.Decides.{nat_tests}
-use Rattle.fb_units.proofs.Lists.{all_weaker, all_append, all_filter}
-use Rattle.fb_units.specs.declared.types.Track.{Track}
-use Rattle.fb_units.proofs.Each.{all_both}
+use Rattle.fb_mirror.proofs.Words.{◌≡◌, ℕ, zero, suc, ◌+◌, ◌-◌, ◌<◌, ◌≤◌, max, List, [], ◌∷◌, ◌++◌, map, Bool, true, false, sym, subst}
+use Rattle.fb_mirror.proofs.Words.{arith, inl, inr, nat_le, filter, nat_lt, not, ◌==◌, if◌then◌else◌, AllByRecursion, fold, cases_Bool}
+use Rattle.fb_mirror.proofs.Words.{nat_tests, all_weaker, all_append, all_filter, Track, all_both, Disk, Passage, media_of, passages}
+use Rattle.fb_mirror.proofs.Words.{Block, DeliveryRow, Served, finish, last_track, media, contents_at, Medium, Decision, serves, Act}
+use Rattle.fb_mirror.proofs.Words.{decision_of, decisions_from, end_of, idle_until, instant_of, last_decision, HasPlan, IsServiceOf}
+use Rattle.fb_mirror.proofs.Words.{passed_between, begun_after, HasSector}
 use Rattle.fb_sectormap.specs.LookUp.{track_at}
 use Rattle.fb_seek.specs.Positioning.{pos}
-use Rattle.fb_service.specs.declared.disk.Disk.{Disk}
-use Rattle.fb_service.specs.declared.passage.Passage.{Passage}
-use Rattle.fb_service.specs.Service.{media_of, passage_from, passages}
-use Rattle.fb_wanted.specs.declared.block.Block.{Block}
+use Rattle.fb_service.specs.Service.{passage_from}
 use Rattle.fb_rows.specs.declared.gap.Catch.{Catch}
 use Rattle.fb_rows.specs.declared.gap.Dwell.{Dwell}
 use Rattle.fb_rows.specs.declared.gap.How.{How}
 use Rattle.fb_rows.specs.declared.gap.How.TheVariants.{Gap as ByGap, Ride as ByRide}
 use Rattle.fb_rows.specs.declared.gap.Plan.{Plan}
 use Rattle.fb_rows.specs.declared.gap.Plan.TheVariants.{Direct, Detour}
-use Rattle.fb_rows.specs.declared.back.DeliveryRow.{DeliveryRow}
-use Rattle.fb_model.specs.PlainReplay.{Served, finish, last_track, media}
-use Rattle.fb_model.specs.Content.{contents_at, Medium}
 use Rattle.fb_model.specs.Plans.{IsPlan, catches, early_dwell, late_dwell}
-use Rattle.fb_model.specs.Decisions.{Decision, serves, Act, serving, idling, ending, decision_of, decisions_from, end_of, idle_until}
-use Rattle.fb_model.specs.Decisions.{instant_of, last_decision}
+use Rattle.fb_model.specs.Decisions.{serving, idling, ending}
 use Rattle.fb_model.specs.Deliveries.{catch_of, caught_of, caught_rows, carried_of, delivery_row, due, end_at, gap_of, lies_in, missed}
 use Rattle.fb_model.specs.Deliveries.{ride_of, carried_rows}
-use Rattle.fb_model.specs.SoundRun.{HasPlan}
 use Rattle.fb_model.proofs.Placing.{AreRising, all_caught, all_carried, rising_in_order}
 use Rattle.fb_model.proofs.Due.{IsCaughtIn, caught_true}
-use Rattle.fb_model.proofs.Passages.{IsServiceOf, passed_between}
-use Rattle.fb_model.proofs.Written.{begun_after}
-use Rattle.fb_model.proofs.HistoriesUpTo.{HasSector}
 use Rattle.fb_model.proofs.DueUpTo.{begins_later, ends_behind, ends_in_time}
 use Rattle.fb_mirror.proofs.Between.{IsOfDisk, kept_by, quiet_until}
 use Rattle.fb_mirror.proofs.RunRows.{AreLinked}

@@ -1,38 +1,25 @@
 -- The history of a rebuild: its two calls, and then nothing but deliveries, tests and finished requests.
-use Rattle.std.proofs.Common.{◌≡◌, ◌⊎◌, ◌<◌, ℕ, zero, suc, ◌+◌, List, [], ◌∷◌, ◌++◌, length, map, drop, Some, Bool, true, false, refl, ap}
-use Rattle.std.proofs.Common.{sym, subst, ◌∙◌, arith, inl, inr, nat_le}
-use Rattle.std.specs.Prelude.{filter, slice_get, nat_lt, ◌&&◌, ◌==◌, not, if◌then◌else◌}
-use Rattle.std.specs.List.{AllByRecursion, fold, list_all, range_with_len, slice_index_or}
-use Rattle.std.proofs.lemmas.Bool.{cases_Bool, true≢false, and_parts, eqb-true}
-use Rattle.std.proofs.lemmas.Option.{same_Some}
-use Rattle.fb_units.proofs.Among.{Among}
-use Rattle.fb_units.proofs.Each.{all_with, all_unmapped, list_all_each}
-use Rattle.fb_units.proofs.Lists.{all_from_index, all_weaker}
-use Rattle.fb_units.proofs.Comparing.{by_is}
-use Rattle.fb_geometry.specs.Shape.{Shape}
-use Rattle.fb_geometry.specs.Places.{places}
-use Rattle.fb_sectormap.specs.declared.cut.Cut.{Cut}
-use Rattle.fb_sectormap.specs.Cutting.{cutting}
-use Rattle.fb_script.specs.declared.call.Action.TheVariants.{Open, Want}
-use Rattle.fb_script.specs.declared.call.Call.{Call}
-use Rattle.fb_script.specs.declared.call.Kind.TheVariants.{Backup, Plain}
-use Rattle.fb_script.specs.Sessions.{is_backup, is_clean}
-use Rattle.fb_script.specs.Allowed.{Terms}
-use Rattle.fb_wanted.specs.declared.block.Block.{Block}
+use Rattle.fb_mirror.proofs.Words.{◌≡◌, ◌⊎◌, ◌<◌, ℕ, zero, suc, ◌+◌, List, [], ◌∷◌, ◌++◌, length, map, drop, Some, Bool, true, false, refl}
+use Rattle.fb_mirror.proofs.Words.{ap, sym, subst, ◌∙◌, arith, inl, inr, nat_le, filter, nat_lt, ◌&&◌, ◌==◌, not, if◌then◌else◌}
+use Rattle.fb_mirror.proofs.Words.{AllByRecursion, fold, list_all, range_with_len, slice_index_or, cases_Bool, true≢false, eqb-true}
+use Rattle.fb_mirror.proofs.Words.{same_Some, Among, all_unmapped, all_weaker, by_is, Shape, places, Cut, cutting, Open, Want, Call}
+use Rattle.fb_mirror.proofs.Words.{Backup, Plain, is_clean, Terms, Block, DeliveryRow, Inputs, Decision, instant_of, tested, delivered}
+use Rattle.fb_mirror.proofs.Words.{Past, blocks_of, calls_of, is_open_backup, registered, tasks, terms_of, wanted, is_complete, segments}
+use Rattle.fb_mirror.proofs.Words.{work, numbered, Delivery, Step, decision_in, past_after, chosen_past, take_call, rebuild_calls}
+use Rattle.fb_mirror.proofs.Words.{wanted_all}
+use Rattle.std.specs.Prelude.{slice_get}
+use Rattle.std.proofs.lemmas.Bool.{and_parts}
+use Rattle.fb_units.proofs.Each.{all_with, list_all_each}
+use Rattle.fb_units.proofs.Lists.{all_from_index}
+use Rattle.fb_script.specs.Sessions.{is_backup}
 use Rattle.fb_wanted.specs.declared.block.State.{State}
 use Rattle.fb_wanted.specs.declared.block.State.TheVariants.{Wanted, Delivered}
 use Rattle.fb_wanted.specs.States.{is_delivered}
-use Rattle.fb_rows.specs.declared.back.DeliveryRow.{DeliveryRow}
-use Rattle.fb_model.specs.Inputs.{Inputs}
-use Rattle.fb_model.specs.Decisions.{Decision, instant_of}
-use Rattle.fb_model.specs.History.{Event, called, chose, tested, delivered, finished, Past, aborts, bare_state, blocks_of, calls_of}
-use Rattle.fb_model.specs.History.{is_open_backup, is_sealed, overwrites, registered, registers, same_block, state_after_event}
-use Rattle.fb_model.specs.History.{tasks, terms_of, wanted}
-use Rattle.fb_model.specs.Completion.{is_complete, is_complete_as, is_closed, is_over, own_of, segments, work}
-use Rattle.fb_model.specs.Segments.{choose_in, choose_up_to, numbered, with_choices}
-use Rattle.fb_model.specs.Steps.{Delivery, Step, decision_in, calls_due, past_after, chosen_past, take_call}
-use Rattle.fb_mirror.specs.Script.{rebuild_calls}
-use Rattle.fb_model.proofs.Due.{wanted_all}
+use Rattle.fb_model.specs.History.{Event, called, chose, finished, aborts, bare_state}
+use Rattle.fb_model.specs.History.{is_sealed, overwrites, registers, same_block, state_after_event}
+use Rattle.fb_model.specs.Completion.{is_complete_as, is_closed, is_over, own_of}
+use Rattle.fb_model.specs.Segments.{choose_in, choose_up_to, with_choices}
+use Rattle.fb_model.specs.Steps.{calls_due}
 use Rattle.fb_model.proofs.Cuts.{cuts_have_sectors, blocks_have_sectors}
 use Rattle.fb_model.proofs.Events.{by_step}
 

@@ -1,52 +1,20 @@
 -- A rebuild that was sealed has covered every sector of the disk.
-use Rattle.std.proofs.Common.{◌≡◌, ℕ, ◌+◌, ◌<◌, ◌≤◌, List, [], ◌∷◌, length, Option, Some, None, Bool, true, false, cond, refl}
-use Rattle.std.proofs.Common.{ap, sym, subst, ◌∙◌, arith, inl, inr}
-use Rattle.std.specs.Prelude.{filter, is_some, nat_lt}
-use Rattle.std.specs.List.{AllByRecursion, flat_map, range_with_len}
-use Rattle.std.specs.Option.{option_map, unwrap_or}
-use Rattle.std.proofs.lemmas.Bool.{true≢false}
-use Rattle.std.proofs.lemmas.List.Elements.{filter-append}
-use Rattle.std.proofs.lemmas.List.FromFn.{length-range_with_len}
-use Rattle.std.proofs.lemmas.Option.{same_Some, none-some}
-use Rattle.fb_units.proofs.Among.{Among}
-use Rattle.fb_units.proofs.Lists.{all_weaker, all_range}
-use Rattle.fb_units.proofs.Each.{all_any, all_both}
-use Rattle.fb_units.proofs.Comparing.{by_is}
+use Rattle.fb_mirror.proofs.Words.{◌≡◌, ℕ, ◌+◌, ◌<◌, ◌≤◌, List, [], ◌∷◌, length, Option, Some, None, Bool, true, false, cond, refl, ap}
+use Rattle.fb_mirror.proofs.Words.{sym, subst, ◌∙◌, arith, inl, inr, filter, is_some, nat_lt, AllByRecursion, flat_map, range_with_len}
+use Rattle.fb_mirror.proofs.Words.{option_map, unwrap_or, true≢false, filter-append, length-range_with_len, same_Some, none-some, Among}
+use Rattle.fb_mirror.proofs.Words.{all_weaker, all_any, all_both, by_is, IsSound, Cut, cutting, Content, Unreadable, runs_of, sectors_of}
+use Rattle.fb_mirror.proofs.Words.{is_within, inside, sectors_of-runs_of, taken_block, Block, BackRow, Got, Seal, DeliveryRow, Run, Inputs}
+use Rattle.fb_mirror.proofs.Words.{served, IsAccepted, Medium, content, contents_at, medium_of, decisions, end_of, instant_of, instants_of}
+use Rattle.fb_mirror.proofs.Words.{IsFull, Past, delivered, is_open_backup, tested, wanted, is_complete, ForegroundListsAscend}
+use Rattle.fb_mirror.proofs.Words.{OnePlainReplay, Served, first_track, numbered, IsDelivered, IsPlanned, IsTested, AtEach, Step}
+use Rattle.fb_mirror.proofs.Words.{decision_in, decisions_in, step_rows, past_after, chosen_past, HasBytes, IsDueRow, due_block}
+use Rattle.fb_mirror.proofs.Words.{delivery_true, HasSector, Event, decided, deliveries_in, events, given, held_after, later, sealed_in}
+use Rattle.fb_mirror.proofs.Words.{writes_in, rebuild_calls, IsAtRest, events_by, sectors, survives}
+use Rattle.fb_units.proofs.Lists.{all_range}
 use Rattle.fb_units.proofs.Alike.{same_map_where}
 use Rattle.fb_units.proofs.Filtered.{all_kept}
-use Rattle.fb_geometry.specs.Sound.{IsSound}
-use Rattle.fb_sectormap.specs.declared.cut.Cut.{Cut}
-use Rattle.fb_sectormap.specs.Cutting.{cutting}
-use Rattle.fb_store.specs.declared.content.Content.{Content}
-use Rattle.fb_store.specs.declared.content.Content.TheVariants.{Unreadable}
-use Rattle.fb_store.specs.Runs.{runs_of, sectors_of}
-use Rattle.fb_store.specs.Writes.{is_within}
-use Rattle.fb_store.proofs.Originals.{inside}
-use Rattle.fb_store.proofs.Runs.{sectors_of-runs_of}
-use Rattle.fb_store.proofs.Taken.{taken_block}
-use Rattle.fb_wanted.specs.declared.block.Block.{Block}
-use Rattle.fb_rows.specs.declared.back.BackRow.{BackRow}
-use Rattle.fb_rows.specs.declared.back.BackRow.TheVariants.{Got, Seal}
-use Rattle.fb_rows.specs.declared.back.DeliveryRow.{DeliveryRow}
-use Rattle.fb_rows.specs.declared.run.Run.{Run}
-use Rattle.fb_model.specs.Inputs.{Inputs, served}
-use Rattle.fb_model.specs.Accepted.{IsAccepted}
-use Rattle.fb_model.specs.Content.{Medium, content, contents_at, medium_of}
-use Rattle.fb_model.specs.Decisions.{decisions, end_of, instant_of, instants_of}
-use Rattle.fb_model.specs.FullRun.{IsAllDelivered, IsFull}
-use Rattle.fb_model.specs.History.{Past, delivered, is_open_backup, tested, wanted}
-use Rattle.fb_model.specs.Completion.{is_complete}
-use Rattle.fb_model.specs.Laws.{ForegroundListsAscend, OnePlainReplay}
-use Rattle.fb_model.specs.PlainReplay.{Served, first_track}
-use Rattle.fb_model.specs.Segments.{numbered}
-use Rattle.fb_model.specs.SoundRun.{IsDelivered, IsPlanned, IsTested}
-use Rattle.fb_model.specs.Steps.{AtEach, Step, decision_in, decisions_in, step_rows, past_after, chosen_past}
-use Rattle.fb_model.proofs.Due.{HasBytes, IsDueRow, due_block, delivery_true}
-use Rattle.fb_model.proofs.HistoriesUpTo.{HasSector}
-use Rattle.fb_mirror.specs.Replacement.{Event, decided, deliveries_in, events, given, held_after, later, sealed_in, writes_in}
-use Rattle.fb_mirror.specs.Script.{rebuild_calls}
-use Rattle.fb_mirror.specs.Survivor.{CoveredSectorsAreTheSurvivors, CoveredSectorsAreTheSurvivorsAtRest, IsAtRest, IsWhole, events_by}
-use Rattle.fb_mirror.specs.Survivor.{sectors, survives}
+use Rattle.fb_model.specs.FullRun.{IsAllDelivered}
+use Rattle.fb_mirror.specs.Survivor.{CoveredSectorsAreTheSurvivors, CoveredSectorsAreTheSurvivorsAtRest, IsWhole}
 use Rattle.fb_mirror.proofs.AtRest.{by_then}
 use Rattle.fb_mirror.proofs.Between.{IsPlaced, decisions_placed, due_quiet, quiet_until}
 use Rattle.fb_mirror.proofs.CutCover.{HoldsIn, cuts_hold}

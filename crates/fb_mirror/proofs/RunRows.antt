@@ -1,20 +1,13 @@
 -- The background rows of a run: what its deliveries and seals have, all its rows have.
-use Rattle.std.proofs.Common.{◌≡◌, ℕ, List, [], ◌∷◌, ◌++◌, map, true, sym, subst}
-use Rattle.std.specs.List.{AllByRecursion, flat_map}
-use Rattle.fb_units.proofs.Lists.{all_weaker, all_append, all_left, all_right}
-use Rattle.fb_rows.specs.declared.back.BackRow.{BackRow}
+use Rattle.fb_mirror.proofs.Words.{◌≡◌, ℕ, List, [], ◌∷◌, ◌++◌, map, true, sym, subst, AllByRecursion, flat_map, all_weaker, all_append}
+use Rattle.fb_mirror.proofs.Words.{all_left, all_right, BackRow, DeliveryRow, Run, Medium, Inputs, instant_of, Past, delivered}
+use Rattle.fb_mirror.proofs.Words.{is_open_backup, tested, is_complete, AtEach, Delivery, Step, decision_in, step_rows, past_after}
+use Rattle.fb_mirror.proofs.Words.{chosen_past, IsTested}
 use Rattle.fb_rows.specs.declared.back.BackRow.TheVariants.{Got as BackGot}
 use Rattle.fb_rows.specs.declared.back.BackRow.TheVariants.{Seal as BackSeal}
-use Rattle.fb_rows.specs.declared.back.DeliveryRow.{DeliveryRow}
-use Rattle.fb_rows.specs.declared.run.Run.{Run}
-use Rattle.fb_model.specs.Content.{Medium}
-use Rattle.fb_model.specs.Inputs.{Inputs}
-use Rattle.fb_model.specs.Decisions.{instant_of}
-use Rattle.fb_model.specs.History.{Past, delivered, is_open_backup, tested}
-use Rattle.fb_model.specs.Completion.{is_complete}
-use Rattle.fb_model.specs.Steps.{AtEach, Delivery, Step, decision_in, history, opening, step_rows, past_after, chosen_past}
+use Rattle.fb_model.specs.Steps.{history, opening}
 use Rattle.fb_model.specs.Steps.{delivery_rows}
-use Rattle.fb_model.specs.SoundRun.{IsSoundBy, IsTested}
+use Rattle.fb_model.specs.SoundRun.{IsSoundBy}
 pub use Rattle.fb_model.proofs.EachRow.{AreLinked}
 use Rattle.fb_model.proofs.EachRow.{RowsHave, AnyEnds, any_linked, step_has, steps_have, tasks_have}
 

@@ -1,18 +1,12 @@
 -- The script of a rebuild reads back as its two calls.
-use Rattle.std.proofs.Common.{◌≡◌, ℕ, ◌+◌, ◌^◌, ◌<◌, ◌≤◌, List, [], ◌∷◌, ◌++◌, length, Bool, true, false, refl, ap, ◌∙◌, arith}
+use Rattle.fb_mirror.proofs.Words.{◌≡◌, ℕ, ◌+◌, ◌^◌, ◌<◌, ◌≤◌, List, [], ◌∷◌, ◌++◌, length, Bool, true, false, refl, ap, ◌∙◌, arith}
+use Rattle.fb_mirror.proofs.Words.{nat_lt, ◌==◌, if◌then◌else◌, list_all, nat_tests, Shape, places, IsSound, Open, Want, Backup}
 use Rattle.std.proofs.Common.{Ok, Err}
-use Rattle.std.specs.Prelude.{nat_lt, ◌==◌, decimal, codes, if◌then◌else◌}
-use Rattle.std.specs.List.{list_all}
+use Rattle.std.specs.Prelude.{decimal, codes}
 use Rattle.std.proofs.lemmas.List.Folds.{list_all-append}
-use Rattle.std.proofs.lemmas.Bool.Decides.{nat_tests}
 use Rattle.fb_maker.proofs.ScriptRead.{calls_end, calls_more, some_sectors}
 use Rattle.fb_units.specs.Lines.{lines_of, fields_of}
 use Rattle.fb_units.proofs.Written.{whole_number}
-use Rattle.fb_geometry.specs.Shape.{Shape}
-use Rattle.fb_geometry.specs.Places.{places}
-use Rattle.fb_geometry.specs.Sound.{IsSound}
-use Rattle.fb_script.specs.declared.call.Action.TheVariants.{Open, Want}
-use Rattle.fb_script.specs.declared.call.Kind.TheVariants.{Backup}
 use Rattle.fb_calls.specs.declared.fault.CallsFault.{CallsFault}
 use Rattle.fb_calls.specs.declared.fault.CallsReason.TheVariants.{TooManyBlocks}
 use Rattle.fb_script.specs.Blocks.{blocks_in}

@@ -1,46 +1,20 @@
 -- A sector that an event concerned holds in the replacement what it holds on the survivor at the run's end.
-use Rattle.std.proofs.Common.{◌≡◌, ◌⊎◌, ℕ, ◌<◌, ◌≤◌, max, List, [], ◌∷◌, ◌++◌, map, Option, Some, None, Bool, true, false, cond, refl, ap}
-use Rattle.std.proofs.Common.{sym, subst, ◌∙◌, arith, inl, inr, append-nil}
-use Rattle.std.specs.Prelude.{nat_lt, nat_le, filter, ◌&&◌}
-use Rattle.std.specs.List.{AllByRecursion, flat_map, fold}
-use Rattle.std.specs.Option.{option_map, unwrap_or}
-use Rattle.std.proofs.lemmas.Bool.{cases_Bool}
-use Rattle.std.proofs.lemmas.Bool.Decides.{nat_tests}
+use Rattle.fb_mirror.proofs.Words.{◌≡◌, ◌⊎◌, ℕ, ◌<◌, ◌≤◌, max, List, [], ◌∷◌, ◌++◌, map, Option, Some, None, Bool, true, false, cond, refl}
+use Rattle.fb_mirror.proofs.Words.{ap, sym, subst, ◌∙◌, arith, inl, inr, append-nil, nat_lt, filter, ◌&&◌, AllByRecursion, flat_map, fold}
+use Rattle.fb_mirror.proofs.Words.{option_map, unwrap_or, cases_Bool, nat_tests, same_Some, none-some, all_any, all_weaker, all_append}
+use Rattle.fb_mirror.proofs.Words.{all_left, all_right, Track, IsSound, Disk, Content, Filled, sectors_of, is_within, writer_of, unwritten}
+use Rattle.fb_mirror.proofs.Words.{sectors_of-runs_of, taken_block, Block, ForeRow, BackRow, Got, DeliveryRow, Run, Served, finish}
+use Rattle.fb_mirror.proofs.Words.{first_track, last_track, Inputs, served, IsAccepted, Medium, Written, content, content_by, contents_at}
+use Rattle.fb_mirror.proofs.Words.{fore_row, fore_rows, medium_of, writes_of, Decision, serves, decisions, decisions_from, end_of}
+use Rattle.fb_mirror.proofs.Words.{idle_until, instant_of, instants_of, last_decision, Past, wanted, AtEach, Delivery, Step, decision_in}
+use Rattle.fb_mirror.proofs.Words.{decisions_in, step_rows, past_after, chosen_past, HasPlan, IsDelivered, IsPlanned, IsTested}
+use Rattle.fb_mirror.proofs.Words.{ForegroundListsAscend, OnePlainReplay, IsFull, HasBytes, IsDueRow, due_bytes, delivery_true}
+use Rattle.fb_mirror.proofs.Words.{served_between, greatest_from, Event, decided, deliveries_in, events, given, held_after, later}
+use Rattle.fb_mirror.proofs.Words.{writes_in, survives}
+use Rattle.std.specs.Prelude.{nat_le}
 use Rattle.std.proofs.lemmas.List.Sums.{fold-append}
-use Rattle.std.proofs.lemmas.Option.{same_Some, none-some}
-use Rattle.fb_units.proofs.Each.{all_any}
-use Rattle.fb_units.proofs.Lists.{all_weaker, all_append, all_left, all_right}
-use Rattle.fb_units.specs.declared.types.Track.{Track}
-use Rattle.fb_geometry.specs.Sound.{IsSound}
-use Rattle.fb_service.specs.declared.disk.Disk.{Disk}
-use Rattle.fb_store.specs.declared.content.Content.{Content}
-use Rattle.fb_store.specs.declared.content.Content.TheVariants.{Filled}
-use Rattle.fb_store.specs.Runs.{sectors_of}
-use Rattle.fb_store.specs.Writes.{is_within, writer_of, unwritten}
-use Rattle.fb_store.proofs.Runs.{sectors_of-runs_of}
-use Rattle.fb_store.proofs.Taken.{taken_block}
-use Rattle.fb_wanted.specs.declared.block.Block.{Block}
-use Rattle.fb_rows.specs.declared.fore.ForeRow.{ForeRow}
-use Rattle.fb_rows.specs.declared.back.BackRow.{BackRow}
-use Rattle.fb_rows.specs.declared.back.BackRow.TheVariants.{Got}
-use Rattle.fb_rows.specs.declared.back.DeliveryRow.{DeliveryRow}
-use Rattle.fb_rows.specs.declared.run.Run.{Run}
-use Rattle.fb_model.specs.PlainReplay.{Served, finish, first_track, last_track}
-use Rattle.fb_model.specs.Inputs.{Inputs, served}
-use Rattle.fb_model.specs.Accepted.{IsAccepted}
-use Rattle.fb_model.specs.Content.{Medium, Written, content, content_by, contents_at, fore_row, fore_rows, medium_of, writes_of}
-use Rattle.fb_model.specs.Decisions.{Decision, serves, decisions, decisions_from, end_of, idle_until, instant_of, instants_of}
-use Rattle.fb_model.specs.Decisions.{last_decision, run_end}
-use Rattle.fb_model.specs.History.{Past, wanted}
-use Rattle.fb_model.specs.Steps.{AtEach, Delivery, Step, decision_in, decisions_in, step_rows, past_after, chosen_past}
-use Rattle.fb_model.specs.SoundRun.{HasPlan, IsDelivered, IsPlanned, IsTested}
-use Rattle.fb_model.specs.Laws.{ForegroundListsAscend, OnePlainReplay}
-use Rattle.fb_model.specs.FullRun.{IsFull}
-use Rattle.fb_model.proofs.Due.{HasBytes, IsDueRow, due_bytes, delivery_true}
-use Rattle.fb_model.proofs.Passages.{served_between}
-use Rattle.fb_model.proofs.DecisionsUpTo.{greatest_from, end_from}
-use Rattle.fb_mirror.specs.Replacement.{Event, decided, deliveries_in, events, given, held_after, later, writes_in}
-use Rattle.fb_mirror.specs.Survivor.{survives}
+use Rattle.fb_model.specs.Decisions.{run_end}
+use Rattle.fb_model.proofs.DecisionsUpTo.{end_from}
 use Rattle.fb_mirror.proofs.Deciding.{later-assoc}
 use Rattle.fb_mirror.proofs.EventLaws.{write_gives}
 use Rattle.fb_mirror.proofs.Between.{IsBetween, IsPlaced, between_within, decisions_placed, due_quiet, quiet_until}

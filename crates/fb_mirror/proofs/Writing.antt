@@ -1,32 +1,22 @@
 -- The services of a replay: one after another, what they write takes time, and what it leaves.
-use Rattle.std.proofs.Common.{◌≡◌, ℕ, zero, suc, ◌+◌, ◌<◌, ◌≤◌, List, [], ◌∷◌, ◌++◌, length, map, Option, None, Bool, true, false}
-use Rattle.std.proofs.Common.{refl, ap, sym, subst, ◌∙◌, arith}
-use Rattle.std.specs.Prelude.{filter, ◌&&◌, if◌then◌else◌}
-use Rattle.std.specs.List.{AllByRecursion, flat_map, last_or}
-use Rattle.std.proofs.lemmas.List.Elements.{filter-append}
-use Rattle.std.proofs.lemmas.List.Concat.{flat_map-append}
-use Rattle.fb_units.proofs.Lists.{all_weaker, all_append}
+use Rattle.fb_mirror.proofs.Words.{◌≡◌, ℕ, zero, suc, ◌+◌, ◌<◌, ◌≤◌, List, [], ◌∷◌, ◌++◌, length, map, Option, None, Bool, true, false}
+use Rattle.fb_mirror.proofs.Words.{refl, ap, sym, subst, ◌∙◌, arith, filter, ◌&&◌, if◌then◌else◌, AllByRecursion, flat_map, filter-append}
+use Rattle.fb_mirror.proofs.Words.{flat_map-append, all_weaker, all_append, Track, all_both, all_map, all_unmapped, places, IsSound, Disk}
+use Rattle.fb_mirror.proofs.Words.{Passage, passages, media_of, Content, Filled, is_within, writer_of, unwritten, Served, finish}
+use Rattle.fb_mirror.proofs.Words.{first_track, last_track, media, Inputs, served, IsAccepted, Medium, Written, content, content_by}
+use Rattle.fb_mirror.proofs.Words.{writes_of, ForegroundListsAscend, OnePlainReplay, IsServiceOf, LiesOnDisk, passed_between}
+use Rattle.fb_mirror.proofs.Words.{served_between, begun_after}
+use Rattle.std.specs.List.{last_or}
 use Rattle.fb_units.specs.declared.types.Request.{Request}
-use Rattle.fb_units.specs.declared.types.Track.{Track}
-use Rattle.fb_units.proofs.Each.{all_both, all_map, all_unmapped}
-use Rattle.fb_geometry.specs.Places.{places}
-use Rattle.fb_geometry.specs.Sound.{IsSound}
-use Rattle.fb_service.specs.declared.disk.Disk.{Disk}
-use Rattle.fb_service.specs.declared.passage.Passage.{Passage}
-use Rattle.fb_service.specs.Service.{passages, finish_of, media_of}
-use Rattle.fb_store.specs.declared.content.Content.{Content}
-use Rattle.fb_store.specs.declared.content.Content.TheVariants.{Filled}
-use Rattle.fb_store.specs.Writes.{is_within, writer_of, unwritten}
-use Rattle.fb_model.specs.PlainReplay.{Key, Served, finish, first_track, last_track, media, plain_replay, service}
-use Rattle.fb_model.specs.Inputs.{Inputs, requests, served}
-use Rattle.fb_model.specs.Accepted.{IsAccepted}
-use Rattle.fb_model.specs.Content.{Medium, Written, content, content_by, writes_of}
-use Rattle.fb_model.specs.Laws.{FollowsRules, ForegroundListsAscend, OnePlainReplay}
-use Rattle.fb_model.proofs.Passages.{IsServiceOf, LiesOnDisk, passed_between, long_slots, requests_lie, served_between, passages_long}
+use Rattle.fb_service.specs.Service.{finish_of}
+use Rattle.fb_model.specs.PlainReplay.{Key, plain_replay, service}
+use Rattle.fb_model.specs.Inputs.{requests}
+use Rattle.fb_model.specs.Laws.{FollowsRules}
+use Rattle.fb_model.proofs.Passages.{long_slots, requests_lie, passages_long}
 use Rattle.fb_model.proofs.Passages.{written_by}
 use Rattle.fb_model.proofs.ContentsUpTo.{is_of_by}
 use Rattle.fb_model.proofs.Picks.{all_picked}
-use Rattle.fb_model.proofs.Written.{begun_after, content_then as writes_then, is_of, last_joined, media_first, own_writes}
+use Rattle.fb_model.proofs.Written.{content_then as writes_then, is_of, last_joined, media_first, own_writes}
 
 -- ---- one after another
 

@@ -1,24 +1,13 @@
 -- The best of the candidates is the best plan of all.
-use Rattle.std.proofs.Common.{◌++◌, ◌≡◌, ℕ, ◌+◌, ◌≤◌, List, [], Bool, true, false, map, cond, ap, refl, subst, sym, arith, inl, inr}
+use Rattle.fb_model.proofs.Words.{◌++◌, ◌≡◌, ℕ, ◌+◌, ◌≤◌, List, [], Bool, true, false, map, cond, ap, refl, subst, sym, arith, inl, inr}
+use Rattle.fb_model.proofs.Words.{◌==◌, ◌||◌, AllByRecursion, cases_lt, or_cases, and_parts, nat_tests, all_flat, all_map, all_unmapped}
+use Rattle.fb_model.proofs.Words.{flat_all, all_append, all_weaker, same_tracks, Track, same_track, IsTrackOf, pos, Disk, Block, Gap, Plan}
+use Rattle.fb_model.proofs.Words.{Direct, Detour, IsPlan, IsNoLater, IsNoWorse, IsBest, value, tracks_of, leaves, is_track_before}
 use Rattle.std.proofs.Common.{nat_lt}
-use Rattle.std.specs.Prelude.{◌==◌, ◌||◌}
-use Rattle.std.specs.List.{AllByRecursion}
-use Rattle.std.proofs.lemmas.Bool.{cases_lt, or_cases, and_parts}
-use Rattle.std.proofs.lemmas.Bool.Decides.{nat_tests}
-use Rattle.fb_units.proofs.Each.{all_best, all_flat, all_map, all_unmapped, flat_all}
-use Rattle.fb_units.proofs.Lists.{all_append, all_left, all_right, all_weaker}
-use Rattle.fb_units.proofs.Tracks.{same_tracks}
-use Rattle.fb_units.specs.declared.types.Track.{Track}
-use Rattle.fb_units.specs.Tracks.{same_track}
-use Rattle.fb_geometry.specs.Shape.{IsTrackOf}
-use Rattle.fb_seek.specs.Positioning.{pos}
-use Rattle.fb_service.specs.declared.disk.Disk.{Disk}
-use Rattle.fb_wanted.specs.declared.block.Block.{Block}
-use Rattle.fb_rows.specs.declared.gap.Gap.{Gap}
-use Rattle.fb_rows.specs.declared.gap.Plan.{Plan}
-use Rattle.fb_rows.specs.declared.gap.Plan.TheVariants.{Direct, Detour}
-use Rattle.fb_model.specs.Plans.{IsPlan, IsDetour, IsNoLater, IsNoWorse, IsBest, value}
-use Rattle.fb_model.specs.BestPlan.{tracks_of, leaves, detours, direct_plans, all_detours, is_track_before, is_plan_before, is_better_plan}
+use Rattle.fb_units.proofs.Each.{all_best}
+use Rattle.fb_units.proofs.Lists.{all_left, all_right}
+use Rattle.fb_model.specs.Plans.{IsDetour}
+use Rattle.fb_model.specs.BestPlan.{detours, direct_plans, all_detours, is_plan_before, is_better_plan}
 use Rattle.fb_model.specs.BestPlan.{best_plan, BestPlansExist}
 use Rattle.fb_model.proofs.Bests.{best_among}
 use Rattle.fb_model.proofs.Leaves.{enough}

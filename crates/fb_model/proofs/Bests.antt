@@ -1,6 +1,5 @@
 -- The best of a list is no worse than any of it.
-use Rattle.std.proofs.Common.{◌≡◌, List, [], ◌∷◌, Bool, true, false, cond, refl}
-use Rattle.std.specs.List.{AllByRecursion, best_of}
+use Rattle.fb_model.proofs.Words.{◌≡◌, List, [], ◌∷◌, Bool, true, false, cond, refl, AllByRecursion, best_of}
 
 -- a test that says which of two is better, and what follows for an order of which one may always be no worse
 module _ {X : Type 0} (better : X → X → Bool) (NoWorse : X → X → Type 0) (itself : (x : X) → NoWorse x x)

@@ -1,19 +1,11 @@
 -- The decisions of a run are a chain: each begins where and when the one before it left the head.
-use Rattle.std.proofs.Common.{◌≡◌, ◌⊎◌, ℕ, zero, suc, ◌≤◌, List, [], ◌∷◌, ◌++◌, length, map, refl, ap, sym, subst, ◌∙◌, arith, inl, inr}
-use Rattle.std.proofs.Common.{max}
-use Rattle.std.specs.Prelude.{Option, Some, None, unwrap_or, nat_le, nat_lt, filter}
-use Rattle.std.specs.Option.{option_map}
-use Rattle.std.specs.List.{AllByRecursion, fold}
-use Rattle.std.proofs.lemmas.Bool.{cases_Bool}
-use Rattle.std.proofs.lemmas.Bool.Decides.{nat_tests}
-use Rattle.fb_units.proofs.Lists.{all_weaker}
-use Rattle.fb_units.specs.declared.types.Request.{Request}
-use Rattle.fb_units.specs.declared.types.Track.{Track}
-use Rattle.fb_service.specs.declared.disk.Disk.{Disk}
-use Rattle.fb_model.specs.PlainReplay.{Key, Served, service, finish, last_track, first_ready, start_of, plain, first_track}
-use Rattle.fb_model.specs.Inputs.{Inputs, requests, served}
-use Rattle.fb_model.specs.Decisions.{Decision, serves, idles, ends, instants_of, idle_until, last_decision, decisions_from, decisions}
-use Rattle.fb_model.specs.Laws.{IsReadyPickOf}
+use Rattle.fb_model.proofs.Words.{◌≡◌, ◌⊎◌, ℕ, zero, suc, ◌≤◌, List, [], ◌∷◌, ◌++◌, length, map, refl, ap, sym, subst, ◌∙◌, arith, inl}
+use Rattle.fb_model.proofs.Words.{inr, max, unwrap_or, nat_lt, filter, option_map, AllByRecursion, fold, cases_Bool, nat_tests, all_weaker}
+use Rattle.fb_model.proofs.Words.{Request, Track, Disk, Key, Served, service, finish, last_track, first_ready, start_of, plain}
+use Rattle.fb_model.proofs.Words.{first_track, Inputs, requests, served, Decision, serves, idles, ends, idle_until, last_decision}
+use Rattle.fb_model.proofs.Words.{decisions_from, decisions, IsReadyPickOf}
+use Rattle.std.specs.Prelude.{Option, Some, None, nat_le}
+use Rattle.fb_model.specs.Decisions.{instants_of}
 use Rattle.fb_model.proofs.DecisionsUpTo.{start_among}
 use Rattle.fb_model.proofs.Picks.{all_picked, ready_pick}
 use Rattle.fb_model.proofs.Replays.{start_from}

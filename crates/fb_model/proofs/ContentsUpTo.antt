@@ -1,25 +1,12 @@
 -- What a sector holds depends only on the services that have started by then, and so does the foreground.
-use Rattle.std.proofs.Common.{◌≡◌, ℕ, ◌<◌, ◌≤◌, List, [], ◌∷◌, ◌++◌, map, ap, ap₂, sym, ◌∙◌, arith, Bool, false, None, nat_le}
-use Rattle.std.specs.Prelude.{filter, ◌&&◌, ◌==◌, if◌then◌else◌}
-use Rattle.std.specs.List.{AllByRecursion, flat_map, last_or, range_with_len}
+use Rattle.fb_model.proofs.Words.{◌≡◌, ℕ, ◌<◌, ◌≤◌, List, [], ◌∷◌, ◌++◌, map, ap, ap₂, sym, ◌∙◌, arith, Bool, false, None, nat_le, filter}
+use Rattle.fb_model.proofs.Words.{◌&&◌, ◌==◌, if◌then◌else◌, AllByRecursion, flat_map, last_or, range_with_len, filter-append, all_weaker}
+use Rattle.fb_model.proofs.Words.{all_append, none_kept, all_map, after_is, by_is, same_map, Disk, Passage, Content, Filled, runs_of}
+use Rattle.fb_model.proofs.Words.{bad_of, unwritten, ForeRow, Served, media, finish, Written, writes_of, Medium, content, content_by}
+use Rattle.fb_model.proofs.Words.{contents_at, fore_row, HaveSameSectors, fore_known}
 use Rattle.std.proofs.lemmas.Bool.{and_right}
-use Rattle.std.proofs.lemmas.List.Elements.{filter-append}
-use Rattle.fb_units.proofs.Lists.{all_weaker, all_append}
-use Rattle.fb_units.proofs.Filtered.{none_kept}
-use Rattle.fb_units.proofs.Each.{all_map}
-use Rattle.fb_units.proofs.Comparing.{after_is, by_is}
-use Rattle.fb_units.proofs.Alike.{same_map, same_map_where}
-use Rattle.fb_service.specs.declared.disk.Disk.{Disk}
-use Rattle.fb_service.specs.declared.passage.Passage.{Passage}
-use Rattle.fb_store.specs.declared.content.Content.{Content}
-use Rattle.fb_store.specs.declared.content.Content.TheVariants.{Filled, Unreadable}
-use Rattle.fb_store.specs.Runs.{runs_of, bad_of}
-use Rattle.fb_store.specs.Writes.{unwritten}
-use Rattle.fb_rows.specs.declared.fore.ForeRow.{ForeRow}
-use Rattle.fb_model.specs.PlainReplay.{Served, media, finish}
-use Rattle.fb_model.specs.Content.{Written, writes_of, Medium, content, content_by, contents_at, fore_row}
-use Rattle.fb_model.specs.Inputs.{HaveSameSectors}
-use Rattle.fb_model.specs.Known.{fore_known}
+use Rattle.fb_units.proofs.Alike.{same_map_where}
+use Rattle.fb_store.specs.declared.content.Content.TheVariants.{Unreadable}
 use Rattle.fb_model.proofs.Passages.{WritesLate, IsServiceOf, pass_by}
 use Rattle.fb_model.proofs.ReplaysUpTo.{StartsBehind, AlikeBy, both, rest}
 

@@ -1,18 +1,13 @@
 -- The blocks into which a range is cut.
-use Rattle.std.proofs.Common.{◌≡◌, ℕ, zero, suc, ◌+◌, ◌-◌, ◌%◌, ◌<◌, ◌≤◌, ◌==◌, not, List, [], ◌∷◌, true, false, refl, ap, sym, ◌∙◌, arith}
-use Rattle.std.proofs.Common.{subst, inl, inr, Bool}
-use Rattle.std.specs.List.{AllByRecursion}
-use Rattle.std.proofs.lemmas.Bool.{cases_Bool, true≢false, or_parts, eq-eqb, cases_lt, not-false}
+use Rattle.fb_model.proofs.Words.{◌≡◌, ℕ, zero, suc, ◌+◌, ◌-◌, ◌%◌, ◌<◌, ◌≤◌, List, [], ◌∷◌, true, false, refl, ap, sym, ◌∙◌, arith, subst}
+use Rattle.fb_model.proofs.Words.{inl, inr, Bool, AllByRecursion, cases_Bool, true≢false, cases_lt, all_append, Shape, place_at, track_at}
+use Rattle.fb_model.proofs.Words.{cutting, live_cuts, Block, numbered}
+use Rattle.std.proofs.Common.{◌==◌, not}
+use Rattle.std.proofs.lemmas.Bool.{or_parts, eq-eqb, not-false}
 use Rattle.std.proofs.Math.Nat.{mod-add-mod, mod-eq_of_lt, mod-lt, mod_self}
-use Rattle.fb_units.proofs.Lists.{all_append}
-use Rattle.fb_geometry.specs.Shape.{Shape}
 use Rattle.fb_sectormap.specs.declared.cut.Cut.{Cut}
-use Rattle.fb_sectormap.specs.LookUp.{place_at, track_at}
 use Rattle.fb_sectormap.specs.Sweeps.{sweep_of}
-use Rattle.fb_sectormap.specs.Cutting.{IsOneTurn, cutting, with_sector, is_cut_before, is_later}
-use Rattle.fb_script.specs.Blocks.{live_cuts}
-use Rattle.fb_wanted.specs.declared.block.Block.{Block}
-use Rattle.fb_model.specs.Segments.{numbered}
+use Rattle.fb_sectormap.specs.Cutting.{IsOneTurn, with_sector, is_cut_before, is_later}
 
 -- cuts that lie end to end, none beyond a multiple of the block size, each in one turn of its track, with its sweep
 abbrev pub AreCuts : Shape → ℕ → ℕ → ℕ → List Cut → Type 0

@@ -1,20 +1,11 @@
 -- Up to an instant the decisions depend only on the services that start by then, and on the arrivals and calls by then.
-use Rattle.std.proofs.Common.{◌≡◌, ◌⊎◌, ℕ, ◌<◌, ◌≤◌, max, List, [], ◌∷◌, ◌++◌, refl, ap, sym, subst, ◌∙◌, arith, true, false, inl, inr}
-use Rattle.std.proofs.Common.{nat_le}
-use Rattle.std.specs.Prelude.{filter, nat_lt, if◌then◌else◌}
-use Rattle.std.specs.List.{AllByRecursion, fold, list_any}
-use Rattle.std.proofs.lemmas.Bool.{cases_Bool, cases_lt}
-use Rattle.std.proofs.lemmas.Bool.Decides.{nat_tests}
+use Rattle.fb_model.proofs.Words.{◌≡◌, ◌⊎◌, ℕ, ◌<◌, ◌≤◌, max, List, [], ◌∷◌, ◌++◌, refl, ap, sym, subst, ◌∙◌, arith, true, false, inl, inr}
+use Rattle.fb_model.proofs.Words.{nat_le, filter, nat_lt, if◌then◌else◌, AllByRecursion, fold, list_any, cases_Bool, cases_lt, nat_tests}
+use Rattle.fb_model.proofs.Words.{by_later, is_after, is_by, all_dropped, all_weaker, not_none, same_first, same_rest, Track, Request}
+use Rattle.fb_model.proofs.Words.{IsRising, kept_twice, none_kept, Disk, Key, Served, finish, last_track, has_arrived, start_of, Decision}
+use Rattle.fb_model.proofs.Words.{serves, idles, ends, instant_of, end_of, idle_until, last_decision, decisions_from}
 use Rattle.std.proofs.lemmas.List.Sums.{fold-append}
-use Rattle.fb_units.proofs.Comparing.{by_later, is_after, is_by}
-use Rattle.fb_units.proofs.Lists.{all_dropped, all_weaker, not_none, same_first, same_rest}
-use Rattle.fb_units.specs.declared.types.Track.{Track}
-use Rattle.fb_units.specs.declared.types.Request.{Request}
-use Rattle.fb_units.specs.Rising.{IsRising}
-use Rattle.fb_units.proofs.Filtered.{kept_twice, none_kept, rising_filter}
-use Rattle.fb_service.specs.declared.disk.Disk.{Disk}
-use Rattle.fb_model.specs.PlainReplay.{Key, Served, finish, last_track, has_arrived, start_of}
-use Rattle.fb_model.specs.Decisions.{Decision, serves, idles, ends, instant_of, end_of, idle_until, last_decision, decisions_from}
+use Rattle.fb_units.proofs.Filtered.{rising_filter}
 use Rattle.fb_model.proofs.Instants.{is_by_then, IsAmong, all_after}
 use Rattle.fb_model.proofs.Passages.{IsServiceOf, are_services, turn_all}
 use Rattle.fb_model.proofs.Replays.{AreTurns, start_from, turns_end}

@@ -1,25 +1,17 @@
 -- What follows for an outline without a fault: its places, and when they pass.
-use Rattle.std.proofs.Common.{◌≡◌, ℕ, suc, ◌+◌, ◌-◌, ◌*◌, ◌%◌, ◌<◌, ◌≤◌, List, [], ◌∷◌, length, refl, ap, sym, subst, ◌∙◌, arith, Some}
-use Rattle.std.specs.Prelude.{slice_get}
-use Rattle.std.specs.List.{flat_map, sum_by}
-use Rattle.std.proofs.lemmas.Nat.{div_below, mul-le}
-use Rattle.std.proofs.lemmas.List.{length-append}
-use Rattle.std.proofs.lemmas.List.Sums.{sum_by-cons}
-use Rattle.fb_units.specs.declared.types.Place.{Place}
-use Rattle.fb_units.proofs.Waits.{wait_least}
-use Rattle.fb_geometry.specs.declared.zone.Zone.{Zone}
-use Rattle.fb_geometry.specs.Shape.{Shape, slots_at, cylinders_of}
-use Rattle.fb_geometry.specs.Angles.{slot_begin}
-use Rattle.fb_geometry.specs.Places.{places, zone_places, data_list}
-use Rattle.fb_geometry.specs.Sound.{IsSound, HasOwnPlaces, LiesOn, cylinder_size}
+use Rattle.fb_model.proofs.Words.{◌≡◌, ℕ, suc, ◌+◌, ◌-◌, ◌*◌, ◌%◌, ◌<◌, ◌≤◌, List, [], ◌∷◌, length, refl, ap, sym, subst, ◌∙◌, arith, Some}
+use Rattle.fb_model.proofs.Words.{slice_get, flat_map, sum_by, mul-le, length-append, sum_by-cons, Place, wait_least, Zone, Shape}
+use Rattle.fb_model.proofs.Words.{slots_at, cylinders_of, slot_begin, places, IsSound, LiesOn, place_at, has_place, begin_angle}
+use Rattle.fb_model.proofs.Words.{begin_from}
+use Rattle.std.proofs.lemmas.Nat.{div_below}
+use Rattle.fb_geometry.specs.Places.{zone_places, data_list}
+use Rattle.fb_geometry.specs.Sound.{HasOwnPlaces, cylinder_size}
 use Rattle.fb_geometry.specs.Kept.{IsFaultless}
 use Rattle.fb_geometry.proofs.Faultless.{zone_by_bounds, slots_at-zone}
 use Rattle.fb_geometry.proofs.Judging.{faultless, fits_per_track}
 use Rattle.fb_geometry.proofs.Once.{sound, own_places}
-use Rattle.fb_sectormap.specs.LookUp.{place_at}
 use Rattle.fb_sectormap.proofs.Parts.{length-same}
-use Rattle.fb_sectormap.proofs.ByCylinder.{by_zone, has_place}
-use Rattle.fb_service.specs.Passing.{begin_angle, begin_from}
+use Rattle.fb_sectormap.proofs.ByCylinder.{by_zone}
 use Rattle.fb_model.specs.Laws.{IsFirstAt, IsDisk, zone_size}
 
 is_faultless : (disk : Shape) → IsDisk disk → IsFaultless disk

@@ -1,27 +1,14 @@
 -- What is due at a decision: each row is of a wanted block, passes whole, and has the bytes of its beginning; none stands twice.
-use Rattle.std.proofs.Common.{◌≡◌, ◌+◌, List, [], ◌++◌, refl, true, false, map, Bool, if◌then◌else◌, ◌-◌, not, ◌⊎◌, inl}
-use Rattle.std.proofs.Common.{inr}
-use Rattle.std.specs.List.{AllByRecursion}
-use Rattle.fb_units.proofs.Lists.{all_weaker, all_append, all_filter}
-use Rattle.fb_units.proofs.Each.{all_map}
-use Rattle.fb_store.specs.Runs.{runs_of, bad_of}
-use Rattle.fb_wanted.specs.declared.block.Block.{Block}
-use Rattle.fb_wanted.specs.States.{is_wanted}
-use Rattle.fb_rows.specs.declared.gap.Dwell.{Dwell}
-use Rattle.fb_rows.specs.declared.gap.How.{How}
+use Rattle.fb_model.proofs.Words.{◌≡◌, ◌+◌, List, [], ◌++◌, refl, true, false, map, Bool, ◌-◌, ◌⊎◌, inl, inr, AllByRecursion, all_weaker}
+use Rattle.fb_model.proofs.Words.{all_append, all_filter, all_map, runs_of, bad_of, Block, is_wanted, Dwell, How, DeliveryRow, Disk}
+use Rattle.fb_model.proofs.Words.{Served, ContentsAt, Medium, contents_at, block_begin, block_end, catches, early_dwell, late_dwell}
+use Rattle.fb_model.proofs.Words.{Inputs, Act, serving, idling, ending, Past, registered, state, wanted, Step, decision_in, chosen_past}
+use Rattle.fb_model.proofs.Words.{gap_of, due, delivery_row, caught_of, caught_rows, carried_of, missed, lies_in, begin_at, end_at}
+use Rattle.fb_model.proofs.Words.{IsSublist, none, taken, IsDelivered}
+use Rattle.std.proofs.Common.{if◌then◌else◌, not}
 use Rattle.fb_rows.specs.declared.gap.How.TheVariants.{Gap as ByGap, Idle as ByIdle, Ride as ByRide}
-use Rattle.fb_rows.specs.declared.back.DeliveryRow.{DeliveryRow}
-use Rattle.fb_service.specs.declared.disk.Disk.{Disk}
-use Rattle.fb_model.specs.PlainReplay.{Served}
-use Rattle.fb_model.specs.Content.{ContentsAt, Medium, contents_at}
-use Rattle.fb_model.specs.Plans.{block_begin, block_end, catches, early_dwell, late_dwell}
-use Rattle.fb_model.specs.Inputs.{Inputs}
-use Rattle.fb_model.specs.Decisions.{Act, serving, idling, ending}
-use Rattle.fb_model.specs.History.{Past, registered, state, wanted}
-use Rattle.fb_model.specs.Steps.{Step, decision_in, chosen_past}
-use Rattle.fb_model.specs.Deliveries.{gap_of, due, delivery_row, caught_of, caught_rows, carried_of, missed, lies_in, carried_rows}
-use Rattle.fb_model.specs.Deliveries.{begin_at, end_at}
-use Rattle.fb_model.specs.SoundRun.{IsSublist, none, left_out, taken, IsDelivered}
+use Rattle.fb_model.specs.Deliveries.{carried_rows}
+use Rattle.fb_model.specs.SoundRun.{left_out}
 use Rattle.fb_model.proofs.Placing.{all_caught, all_carried}
 
 -- a row has the bytes of its beginning

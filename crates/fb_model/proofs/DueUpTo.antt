@@ -1,35 +1,13 @@
 -- What is due lies within its decision, and is the same where the disk holds the same; of a dwell that is under way, what ends by then.
-use Rattle.std.proofs.Common.{◌≡◌, ℕ, ◌<◌, ◌≤◌, List, [], ◌∷◌, ◌++◌, map, refl, ap, ap₂, sym, ◌∙◌, arith, Bool, true, false, inl}
-use Rattle.std.proofs.Common.{inr, nat_le}
-use Rattle.std.specs.Prelude.{filter, ◌&&◌, not, if◌then◌else◌}
-use Rattle.std.specs.List.{AllByRecursion}
-use Rattle.std.proofs.Math.Bool.{and-true}
-use Rattle.std.proofs.lemmas.Bool.{cases_Bool}
-use Rattle.std.proofs.lemmas.Bool.Decides.{nat_tests}
-use Rattle.fb_units.proofs.Lists.{all_filter}
-use Rattle.fb_units.specs.declared.types.Track.{Track}
-use Rattle.fb_units.specs.Tracks.{same_track}
-use Rattle.fb_units.proofs.Comparing.{by_is}
+use Rattle.fb_model.proofs.Words.{◌≡◌, ℕ, ◌<◌, ◌≤◌, List, [], ◌∷◌, ◌++◌, map, refl, ap, ap₂, sym, ◌∙◌, arith, Bool, true, false, inl, inr}
+use Rattle.fb_model.proofs.Words.{nat_le, filter, ◌&&◌, not, if◌then◌else◌, AllByRecursion, and-true, cases_Bool, nat_tests, all_filter}
+use Rattle.fb_model.proofs.Words.{Track, same_track, by_is, all_any, all_map, all_pass, all_with, kept_map, Disk, begin_from, runs_of}
+use Rattle.fb_model.proofs.Words.{bad_of, Block, Catch, Dwell, How, Plan, Direct, Detour, DeliveryRow, Served, media, finish, ContentsAt}
+use Rattle.fb_model.proofs.Words.{IsPlan, block_begin, block_end, catches, early_dwell, late_dwell, Decision, serves, idles, ends}
+use Rattle.fb_model.proofs.Words.{instant_of, end_of, Act, serving, idling, ending, decision_of, gap_of, due, delivery_row, in_order}
+use Rattle.fb_model.proofs.Words.{catch_of, caught_of, caught_rows, missed, ride_of, carried_of, HasPlan}
 use Rattle.fb_units.proofs.Alike.{map_same}
-use Rattle.fb_units.proofs.Each.{all_any, all_map, all_pass, all_with}
-use Rattle.fb_units.proofs.Filtered.{kept_map}
-use Rattle.fb_service.specs.declared.disk.Disk.{Disk}
-use Rattle.fb_service.specs.Passing.{begin_from}
-use Rattle.fb_store.specs.Runs.{runs_of, bad_of}
-use Rattle.fb_wanted.specs.declared.block.Block.{Block}
-use Rattle.fb_rows.specs.declared.gap.Catch.{Catch}
-use Rattle.fb_rows.specs.declared.gap.Dwell.{Dwell}
-use Rattle.fb_rows.specs.declared.gap.How.{How}
 use Rattle.fb_rows.specs.declared.gap.How.TheVariants.{Gap as ByGap, Idle as ByIdle, Ride as ByRide}
-use Rattle.fb_rows.specs.declared.gap.Plan.{Plan}
-use Rattle.fb_rows.specs.declared.gap.Plan.TheVariants.{Direct, Detour}
-use Rattle.fb_rows.specs.declared.back.DeliveryRow.{DeliveryRow}
-use Rattle.fb_model.specs.PlainReplay.{Served, media, finish}
-use Rattle.fb_model.specs.Content.{ContentsAt}
-use Rattle.fb_model.specs.Plans.{IsPlan, block_begin, block_end, catches, early_dwell, late_dwell}
-use Rattle.fb_model.specs.Decisions.{Decision, serves, idles, ends, instant_of, end_of, Act, serving, idling, ending, decision_of}
-use Rattle.fb_model.specs.Deliveries.{gap_of, due, delivery_row, in_order, catch_of, caught_of, caught_rows, missed, ride_of, carried_of}
-use Rattle.fb_model.specs.SoundRun.{HasPlan}
 use Rattle.fb_model.proofs.Placing.{AreRising, all_caught, all_carried, ends_by, kept_in_order, rising_in_order}
 use Rattle.fb_model.proofs.Due.{IsCaughtIn, IsDueRow}
 use Rattle.fb_model.proofs.Passages.{IsServiceOf, block_passes, media_by}

@@ -1,27 +1,16 @@
 -- What each row of a run's background has: the rows of tests, findings, deliveries, steps and tasks.
-use Rattle.std.proofs.Common.{◌≡◌, ℕ, ◌<◌, List, [], ◌∷◌, ◌++◌, length, map, Bool, true, false, refl, sym, subst, arith}
-use Rattle.std.specs.Prelude.{◌&&◌, filter, not, if◌then◌else◌}
-use Rattle.std.specs.List.{AllByRecursion, flat_map}
-use Rattle.std.proofs.lemmas.Bool.{and_parts}
-use Rattle.fb_units.proofs.Lists.{all_append, all_range}
-use Rattle.fb_units.proofs.Each.{all_map, all_map_any}
+use Rattle.fb_model.proofs.Words.{◌≡◌, ℕ, ◌<◌, List, [], ◌∷◌, ◌++◌, length, map, Bool, true, false, refl, sym, subst, arith, ◌&&◌, filter}
+use Rattle.fb_model.proofs.Words.{not, if◌then◌else◌, AllByRecursion, flat_map, and_parts, all_append, all_range, all_map, BackRow}
+use Rattle.fb_model.proofs.Words.{DeliveryRow, Dwell, Inputs, Medium, instant_of, Act, serving, idling, ending, Past, delivered, tested}
+use Rattle.fb_model.proofs.Words.{tasks, task_numbers, terms_of, is_open_backup, Choice, choices, is_complete, was_complete, work}
+use Rattle.fb_model.proofs.Words.{bad_sectors, complete_rows, findings, image, is_newly_cleaned, is_scrub, packed, seal_rows, segment_row}
+use Rattle.fb_model.proofs.Words.{segment_rows, test_rows, AtEach, Delivery, Step, decision_in, opening, step_rows, past_after}
+use Rattle.fb_model.proofs.Words.{chosen_past, task_row, task_rows, delivery_rows, tested_past, with_delivery, AreFollowed, IsTested}
+use Rattle.fb_units.proofs.Each.{all_map_any}
 use Rattle.fb_units.proofs.Parts.{all-parts}
-use Rattle.fb_rows.specs.declared.back.BackRow.{BackRow}
 use Rattle.fb_rows.specs.declared.back.BackRow.TheVariants.{Gap as BackGap, Idle as BackIdle, Got as BackGot, Bad as BackBad}
 use Rattle.fb_rows.specs.declared.back.BackRow.TheVariants.{Seal as BackSeal, Complete as BackComplete}
-use Rattle.fb_rows.specs.declared.back.DeliveryRow.{DeliveryRow}
-use Rattle.fb_rows.specs.declared.gap.Dwell.{Dwell}
 use Rattle.fb_rows.specs.declared.back.GapRow.{GapRow}
-use Rattle.fb_model.specs.Inputs.{Inputs}
-use Rattle.fb_model.specs.Content.{Medium}
-use Rattle.fb_model.specs.Decisions.{instant_of, Act, serving, idling, ending}
-use Rattle.fb_model.specs.History.{Past, delivered, tested, tasks, task_numbers, terms_of, is_open_backup}
-use Rattle.fb_model.specs.Completion.{Choice, choices, is_complete, was_complete, work}
-use Rattle.fb_model.specs.Images.{bad_sectors, complete_rows, findings, image, is_newly_cleaned, is_scrub, packed, seal_rows, segment_row}
-use Rattle.fb_model.specs.Images.{segment_rows, test_rows}
-use Rattle.fb_model.specs.Steps.{AtEach, Delivery, Step, decision_in, opening, step_rows, past_after, chosen_past, task_row, task_rows}
-use Rattle.fb_model.specs.Steps.{delivery_rows, tested_past, with_delivery}
-use Rattle.fb_model.specs.SoundRun.{AreFollowed, IsTested}
 
 -- each end is in a relation to the one before it
 abbrev pub AreLinked : (ℕ → ℕ → Type 0) → ℕ → List DeliveryRow → Type 0

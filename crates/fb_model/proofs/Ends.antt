@@ -1,11 +1,8 @@
 -- No passage of a block ends before it is waited for, and a later start never ends it earlier.
-use Rattle.std.proofs.Common.{ℕ, ◌+◌, ◌-◌, ◌%◌, ◌<◌, ◌≤◌, arith}
+use Rattle.fb_model.proofs.Words.{ℕ, ◌+◌, ◌-◌, ◌%◌, ◌<◌, ◌≤◌, arith, Shape, place_at, begin_angle, begin_from, Block, block_begin}
+use Rattle.fb_model.proofs.Words.{block_end}
 use Rattle.fb_units.proofs.Waits.{next-le}
-use Rattle.fb_geometry.specs.Shape.{Shape}
-use Rattle.fb_sectormap.specs.LookUp.{place_at}
-use Rattle.fb_service.specs.Passing.{begin_angle, end_angle, begin_from}
-use Rattle.fb_wanted.specs.declared.block.Block.{Block}
-use Rattle.fb_model.specs.Plans.{block_begin, block_end}
+use Rattle.fb_service.specs.Passing.{end_angle}
 
 pub begin-le : (disk : Shape) (block : Block) (t u : ℕ) → 0 < disk.rotation → t ≤ u → block_begin disk block t ≤ block_begin disk block u
 unfolding begin_from

@@ -1,22 +1,10 @@
 -- What each thing that can happen keeps, a run keeps: an induction over choices, calls, deliveries and finished requests.
-use Rattle.std.proofs.Common.{◌≡◌, ℕ, zero, suc, List, [], ◌∷◌, length, Bool, true, false, refl}
-use Rattle.std.specs.Prelude.{◌&&◌, not, if◌then◌else◌}
-use Rattle.std.specs.List.{AllByRecursion, fold, best_of}
-use Rattle.std.proofs.lemmas.Bool.{and_parts}
-use Rattle.fb_units.specs.declared.types.Request.{Request}
-use Rattle.fb_geometry.specs.Shape.{Shape}
-use Rattle.fb_script.specs.declared.call.Call.{Call}
-use Rattle.fb_script.specs.Blocks.{live_cuts}
-use Rattle.fb_script.specs.Sessions.{is_clean}
-use Rattle.fb_wanted.specs.declared.block.Block.{Block}
-use Rattle.fb_rows.specs.declared.back.BackRow.{BackRow}
-use Rattle.fb_rows.specs.declared.back.DeliveryRow.{DeliveryRow}
-use Rattle.fb_model.specs.Inputs.{Inputs}
-use Rattle.fb_model.specs.Decisions.{Decision, serves, idles, ends}
-use Rattle.fb_model.specs.History.{Past, LogSegment, chose, tested, delivered, finished, task_numbers, terms_of}
-use Rattle.fb_model.specs.Completion.{work, segments, is_closed}
-use Rattle.fb_model.specs.Segments.{is_better, is_busy, next_blocks, unchosen, choose_best, choose_once, choose_up_to, choose_in, with_choices}
-use Rattle.fb_model.specs.Steps.{Delivery, Step, decision_in, take_call, chosen_past, tested_past, with_delivery, with_finish, past_after}
+use Rattle.fb_model.proofs.Words.{◌≡◌, ℕ, zero, suc, List, [], ◌∷◌, length, Bool, true, false, refl, ◌&&◌, not, if◌then◌else◌}
+use Rattle.fb_model.proofs.Words.{AllByRecursion, fold, best_of, and_parts, Request, Shape, Call, live_cuts, is_clean, Block, BackRow}
+use Rattle.fb_model.proofs.Words.{DeliveryRow, Inputs, Decision, serves, idles, ends, Past, LogSegment, chose, tested, delivered, finished}
+use Rattle.fb_model.proofs.Words.{task_numbers, terms_of, work, segments, is_closed, is_better, is_busy, next_blocks, unchosen}
+use Rattle.fb_model.proofs.Words.{choose_best, choose_once, choose_up_to, choose_in, with_choices, Delivery, Step, decision_in, take_call}
+use Rattle.fb_model.proofs.Words.{chosen_past, tested_past, with_delivery, with_finish, past_after}
 
 -- ---- choices
 

@@ -1,28 +1,11 @@
 -- A gap has one best plan at most, and inputs one full run.
-use Rattle.std.proofs.Common.{◌≡◌, ◌⊎◌, ℕ, ◌≤◌, List, [], ◌∷◌, ◌++◌, map, refl, ap, ap₂, sym, subst, ◌∙◌, arith, inl, inr}
-use Rattle.std.specs.List.{flat_map}
-use Rattle.fb_units.specs.declared.types.Track.{Track}
-use Rattle.fb_units.proofs.Lists.{not_none, same_first, same_rest}
-use Rattle.fb_service.specs.declared.disk.Disk.{Disk}
-use Rattle.fb_wanted.specs.declared.block.Block.{Block}
-use Rattle.fb_rows.specs.declared.gap.Gap.{Gap}
-use Rattle.fb_rows.specs.declared.gap.Plan.{Plan}
-use Rattle.fb_rows.specs.declared.gap.Plan.TheVariants.{Direct, Detour}
-use Rattle.fb_rows.specs.declared.back.BackRow.{BackRow}
-use Rattle.fb_rows.specs.declared.back.DeliveryRow.{DeliveryRow}
-use Rattle.fb_rows.specs.declared.run.Run.{Run}
-use Rattle.fb_model.specs.Inputs.{Inputs}
-use Rattle.fb_model.specs.Accepted.{IsAccepted}
-use Rattle.fb_model.specs.Content.{Medium, contents_at, medium_of}
-use Rattle.fb_model.specs.Plans.{value, IsTrackBefore, IsNoLater, IsBest}
-use Rattle.fb_model.specs.Decisions.{Decision, instant_of, Act, serving, idling, ending, decision_of}
-use Rattle.fb_model.specs.History.{Past, tested, delivered, wanted}
-use Rattle.fb_model.specs.Deliveries.{gap_of, due}
-use Rattle.fb_model.specs.Images.{findings, test_rows}
-use Rattle.fb_model.specs.Steps.{Delivery, Step, decision_in, decisions_in, chosen_past, tested_past, with_delivery, past_after, AtEach}
-use Rattle.fb_model.specs.Steps.{history, step_rows, task_rows}
-use Rattle.fb_model.specs.SoundRun.{AreFollowed, IsTested}
-use Rattle.fb_model.specs.FullRun.{HasBestPlan, IsBestPlanned, IsAllDelivered, IsFull}
+use Rattle.fb_model.proofs.Words.{◌≡◌, ◌⊎◌, ℕ, ◌≤◌, List, [], ◌∷◌, ◌++◌, map, refl, ap, ap₂, sym, subst, ◌∙◌, arith, inl, inr, flat_map}
+use Rattle.fb_model.proofs.Words.{Track, not_none, same_first, same_rest, Disk, Block, Gap, Plan, Direct, Detour, BackRow, DeliveryRow}
+use Rattle.fb_model.proofs.Words.{Run, Inputs, IsAccepted, Medium, contents_at, medium_of, value, IsTrackBefore, IsNoLater, IsBest}
+use Rattle.fb_model.proofs.Words.{Decision, instant_of, Act, serving, idling, ending, decision_of, Past, tested, delivered, wanted, gap_of}
+use Rattle.fb_model.proofs.Words.{due, findings, test_rows, Delivery, Step, decision_in, decisions_in, chosen_past, tested_past}
+use Rattle.fb_model.proofs.Words.{with_delivery, past_after, AtEach, history, step_rows, task_rows, AreFollowed, IsTested, HasBestPlan}
+use Rattle.fb_model.proofs.Words.{IsBestPlanned, IsAllDelivered, IsFull}
 
 -- ---- the best plan
 

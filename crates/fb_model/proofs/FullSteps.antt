@@ -1,15 +1,8 @@
 -- A run is full if each of its steps is as a full run has it, however its rows were made.
-use Rattle.std.proofs.Common.{◌≡◌, List, [], ◌∷◌, map, refl, subst}
-use Rattle.fb_geometry.specs.Sound.{IsSound}
-use Rattle.fb_model.specs.Inputs.{Inputs}
-use Rattle.fb_model.specs.Accepted.{IsAccepted}
-use Rattle.fb_model.specs.Content.{Medium, medium_of, fore_rows}
-use Rattle.fb_model.specs.Timeline.{timeline, IsPossible}
-use Rattle.fb_model.specs.Decisions.{decisions, run_end}
-use Rattle.fb_model.specs.History.{Past, wanted}
-use Rattle.fb_model.specs.Steps.{Step, decision_in, decisions_in, chosen_past, past_after, history, AtEach, task_rows}
-use Rattle.fb_model.specs.SoundRun.{IsPlanned, IsTested, IsSublist, IsDelivered, Throughout, none, taken}
-use Rattle.fb_model.specs.FullRun.{IsBestPlanned, IsAllDelivered, IsFull}
+use Rattle.fb_model.proofs.Words.{◌≡◌, List, [], ◌∷◌, map, refl, subst, IsSound, Inputs, IsAccepted, Medium, medium_of, fore_rows}
+use Rattle.fb_model.proofs.Words.{timeline, IsPossible, decisions, run_end, Past, wanted, Step, decision_in, decisions_in, chosen_past}
+use Rattle.fb_model.proofs.Words.{past_after, history, AtEach, task_rows, IsPlanned, IsTested, IsSublist, IsDelivered, Throughout, none}
+use Rattle.fb_model.proofs.Words.{taken, IsBestPlanned, IsAllDelivered, IsFull}
 use Rattle.fb_model.specs.TheRun.{run_of}
 use Rattle.fb_model.proofs.FullRuns.{IsFullStep}
 use Rattle.fb_model.proofs.Possible.{possible}

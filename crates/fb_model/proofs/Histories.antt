@@ -1,25 +1,14 @@
 -- What holds of the history of accepted inputs: the rules of its calls, and what each thing that can happen keeps.
-use Rattle.std.proofs.Common.{◌≡◌, ℕ, List, [], ◌∷◌, ◌++◌, length, length-append, append-nil, true, drop, refl, ap, sym, subst, ◌∙◌}
-use Rattle.std.specs.List.{AllByRecursion, best_of, fold}
+use Rattle.fb_model.proofs.Words.{◌≡◌, ℕ, List, [], ◌∷◌, ◌++◌, length, append-nil, true, drop, refl, ap, sym, subst, ◌∙◌, AllByRecursion}
+use Rattle.fb_model.proofs.Words.{best_of, fold, Request, all_any, all_append, Shape, Action, Open, Call, AreAllowed, MayAsk, Terms}
+use Rattle.fb_model.proofs.Words.{is_clean, BackRow, DeliveryRow, Inputs, Decision, instant_of, Past, called, tested, delivered, finished}
+use Rattle.fb_model.proofs.Words.{calls_of, opened_by, registered, tasks, terms_of, is_better, Delivery, Step, decision_in, blocks_by}
+use Rattle.fb_model.proofs.Words.{take_call, calls_left, calls_due, chosen_past, past_after}
+use Rattle.std.proofs.Common.{length-append}
 use Rattle.std.proofs.lemmas.List.{drop-drop}
 use Rattle.std.proofs.lemmas.List.Concat.{flat_map-append}
-use Rattle.fb_units.specs.declared.types.Request.{Request}
-use Rattle.fb_units.proofs.Each.{all_any}
-use Rattle.fb_units.proofs.Lists.{all_append}
-use Rattle.fb_geometry.specs.Shape.{Shape}
-use Rattle.fb_script.specs.declared.call.Action.{Action}
-use Rattle.fb_script.specs.declared.call.Action.TheVariants.{Open}
-use Rattle.fb_script.specs.declared.call.Call.{Call}
 use Rattle.fb_script.specs.Allowed as allowed
-use Rattle.fb_script.specs.Allowed.{AreAllowed, MayAsk, Terms, terms_in}
-use Rattle.fb_script.specs.Sessions.{is_clean}
-use Rattle.fb_rows.specs.declared.back.BackRow.{BackRow}
-use Rattle.fb_rows.specs.declared.back.DeliveryRow.{DeliveryRow}
-use Rattle.fb_model.specs.Inputs.{Inputs}
-use Rattle.fb_model.specs.Decisions.{Decision, instant_of}
-use Rattle.fb_model.specs.History.{Past, called, tested, delivered, finished, calls_of, opened_by, registered, tasks, terms_of}
-use Rattle.fb_model.specs.Segments.{is_better}
-use Rattle.fb_model.specs.Steps.{Delivery, Step, decision_in, blocks_by, take_call, calls_left, calls_due, chosen_past, past_after}
+use Rattle.fb_script.specs.Allowed.{terms_in}
 use Rattle.fb_model.proofs.HistoriesUpTo.{HasSector, RiseInTime, due_first, called_sectors, chosen_sectors}
 use Rattle.fb_model.proofs.Events.{ChoiceKeeps, by_choices, by_step}
 

@@ -1,27 +1,12 @@
 -- What a history holds: blocks that were cut, and deliveries that a test can look back at.
-use Rattle.std.proofs.Common.{◌≡◌, ℕ, zero, suc, ◌<◌, ◌≤◌, List, [], ◌∷◌, ◌++◌, length, map, refl, ap, ap₂, sym, ◌∙◌, arith}
-use Rattle.std.proofs.Common.{Bool, inl, inr, nat_le}
-use Rattle.std.specs.Prelude.{filter, drop}
-use Rattle.std.specs.List.{AllByRecursion, fold, best_of}
-use Rattle.std.proofs.lemmas.Bool.{cases_Bool}
+use Rattle.fb_model.proofs.Words.{◌≡◌, ℕ, zero, suc, ◌<◌, ◌≤◌, List, [], ◌∷◌, ◌++◌, length, map, refl, ap, ap₂, sym, ◌∙◌, arith, Bool, inl}
+use Rattle.fb_model.proofs.Words.{inr, nat_le, filter, AllByRecursion, fold, best_of, cases_Bool, after_is, by_later, is_after, all_weaker}
+use Rattle.fb_model.proofs.Words.{all_append, kept_twice, Shape, cutting, Action, Want, Call, live_cuts, DeliveryRow, Inputs, Decision}
+use Rattle.fb_model.proofs.Words.{instant_of, LogSegment, Event, called, chose, tested, delivered, finished, Past, terms_of, blocks_of}
+use Rattle.fb_model.proofs.Words.{registered, wanted, calls_of, is_better, next_blocks, with_choices, Delivery, Step, decision_in}
+use Rattle.fb_model.proofs.Words.{blocks_by, take_call, calls_left, calls_due, chosen_past, past_after}
+use Rattle.std.specs.Prelude.{drop}
 use Rattle.std.proofs.lemmas.List.{drop_all}
-use Rattle.fb_units.proofs.Comparing.{after_is, by_later, is_after}
-use Rattle.fb_units.proofs.Lists.{all_weaker, all_append}
-use Rattle.fb_units.proofs.Filtered.{kept_twice}
-use Rattle.fb_geometry.specs.Shape.{Shape}
-use Rattle.fb_sectormap.specs.Cutting.{cutting}
-use Rattle.fb_script.specs.declared.call.Action.{Action}
-use Rattle.fb_script.specs.declared.call.Action.TheVariants.{Want}
-use Rattle.fb_script.specs.declared.call.Call.{Call}
-use Rattle.fb_script.specs.Blocks.{live_cuts}
-use Rattle.fb_rows.specs.declared.back.DeliveryRow.{DeliveryRow}
-use Rattle.fb_model.specs.Inputs.{Inputs}
-use Rattle.fb_model.specs.Decisions.{Decision, instant_of}
-use Rattle.fb_model.specs.History.{LogSegment}
-use Rattle.fb_model.specs.History.{Event, called, chose, tested, delivered, finished, Past, terms_of, blocks_of, registered, wanted}
-use Rattle.fb_model.specs.History.{calls_of}
-use Rattle.fb_model.specs.Segments.{is_better, next_blocks, with_choices}
-use Rattle.fb_model.specs.Steps.{Delivery, Step, decision_in, blocks_by, take_call, calls_left, calls_due, chosen_past, past_after}
 use Rattle.fb_model.specs.Accepted.{IsRising}
 pub use Rattle.fb_model.proofs.Cuts.{HasSector}
 use Rattle.fb_model.proofs.Cuts.{cuts_have_sectors, live_have_sectors, blocks_have_sectors}

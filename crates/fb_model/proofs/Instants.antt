@@ -1,18 +1,7 @@
 -- The instants of arrivals and calls, and those of them by an instant.
-use Rattle.std.proofs.Common.{◌≡◌, ◌⊎◌, ℕ, ◌<◌, ◌≤◌, List, [], ◌∷◌, map, Bool, true, false, refl, ap, ap₂, sym, ◌∙◌, arith, inl, inr}
-use Rattle.std.proofs.Common.{nat_le, max}
-use Rattle.std.specs.Prelude.{filter}
-use Rattle.std.specs.List.{AllByRecursion, fold}
-use Rattle.std.proofs.lemmas.Bool.{cases_Bool}
-use Rattle.std.proofs.lemmas.Bool.Decides.{nat_tests}
-use Rattle.fb_units.proofs.Comparing.{after_is, is_after, is_by}
-use Rattle.fb_units.proofs.Each.{all_pass}
-use Rattle.fb_units.proofs.Lists.{all_weaker}
-use Rattle.fb_units.specs.declared.types.Request.{Request}
-use Rattle.fb_units.specs.Rising.{IsRising}
-use Rattle.fb_units.proofs.Filtered.{kept_map, none_kept}
-use Rattle.fb_script.specs.declared.call.Call.{Call}
-use Rattle.fb_model.specs.Decisions.{among}
+use Rattle.fb_model.proofs.Words.{◌≡◌, ◌⊎◌, ℕ, ◌<◌, ◌≤◌, List, [], ◌∷◌, map, Bool, true, false, refl, ap, ap₂, sym, ◌∙◌, arith, inl, inr}
+use Rattle.fb_model.proofs.Words.{nat_le, max, filter, AllByRecursion, fold, cases_Bool, nat_tests, after_is, is_after, is_by, all_pass}
+use Rattle.fb_model.proofs.Words.{all_weaker, Request, IsRising, kept_map, none_kept, Call, among}
 
 abbrev pub is_by_then : ℕ → ℕ → Bool
 is_by_then t instant = nat_le instant t

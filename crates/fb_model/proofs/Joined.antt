@@ -1,17 +1,9 @@
 -- The foreground list: each request once, in the order of arrival.
-use Rattle.std.proofs.Common.{ℕ, ◌≤◌, List, [], ◌∷◌, ◌++◌, map, sym, subst, arith, inl, inr, nat_le, append_assoc, append-nil}
-use Rattle.std.proofs.Common.{IsPermutation}
-use Rattle.std.specs.List.{AllByRecursion, fold}
-use Rattle.std.proofs.lemmas.Bool.{cases_Bool}
-use Rattle.std.proofs.lemmas.Bool.Decides.{nat_tests}
-use Rattle.std.proofs.lemmas.List.Sorted.{IsPermutation-refl, IsPermutation-trans, IsPermutation-cons, IsPermutation-to_front}
+use Rattle.fb_model.proofs.Words.{ℕ, ◌≤◌, List, [], ◌∷◌, ◌++◌, map, sym, subst, arith, inl, inr, nat_le, append_assoc, append-nil}
+use Rattle.fb_model.proofs.Words.{IsPermutation, AllByRecursion, fold, cases_Bool, nat_tests, IsPermutation-refl, IsPermutation-trans}
+use Rattle.fb_model.proofs.Words.{IsPermutation-cons, all_weaker, Request, IsRising, behind, promoted, Inputs, IsAccepted}
+use Rattle.std.proofs.lemmas.List.Sorted.{IsPermutation-to_front}
 use Rattle.std.proofs.lemmas.List.Sorted.{IsPermutation-append_left}
-use Rattle.fb_units.proofs.Lists.{all_weaker}
-use Rattle.fb_units.specs.declared.types.Request.{Request}
-use Rattle.fb_units.specs.Rising.{IsRising}
-use Rattle.fb_model.specs.Foreground.{behind, promoted}
-use Rattle.fb_model.specs.Inputs.{Inputs}
-use Rattle.fb_model.specs.Accepted.{IsAccepted}
 use Rattle.fb_model.specs.Laws.{IsInOrder}
 
 abbrev arrivals : List Request → List ℕ

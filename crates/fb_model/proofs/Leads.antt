@@ -1,20 +1,11 @@
 -- Where legs lead the head: one after another, and through a gap by its plan.
-use Rattle.std.proofs.Common.{◌≡◌, ℕ, ◌+◌, ◌≤◌, List, [], ◌∷◌, ◌++◌, true, false, refl, ap, ◌∙◌, arith, inl, inr, append_assoc}
-use Rattle.std.specs.Prelude.{Bool, if◌then◌else◌}
-use Rattle.std.proofs.lemmas.Bool.{cases_Bool}
-use Rattle.std.proofs.lemmas.Bool.Decides.{nat_tests}
-use Rattle.fb_units.proofs.Tracks.{same_tracks, track_itself}
-use Rattle.fb_units.specs.declared.types.Track.{Track}
-use Rattle.fb_units.specs.Tracks.{same_track}
+use Rattle.fb_model.proofs.Words.{◌≡◌, ℕ, ◌+◌, ◌≤◌, List, [], ◌∷◌, ◌++◌, true, false, refl, ap, ◌∙◌, arith, inl, inr, append_assoc}
+use Rattle.fb_model.proofs.Words.{if◌then◌else◌, cases_Bool, nat_tests, same_tracks, track_itself, Track, same_track, pos, Disk, Gap, Plan}
+use Rattle.fb_model.proofs.Words.{Direct, Detour, IsPlan, stay, way, gap_legs, led_to}
+use Rattle.std.specs.Prelude.{Bool}
 use Rattle.fb_seek.specs.Mechanics.{Mechanics}
-use Rattle.fb_seek.specs.Positioning.{pos}
-use Rattle.fb_service.specs.declared.disk.Disk.{Disk}
 use Rattle.fb_wanted.proofs.Kept.{swapped_other}
-use Rattle.fb_rows.specs.declared.gap.Gap.{Gap}
-use Rattle.fb_rows.specs.declared.gap.Plan.{Plan}
-use Rattle.fb_rows.specs.declared.gap.Plan.TheVariants.{Direct, Detour}
-use Rattle.fb_model.specs.Plans.{IsPlan}
-use Rattle.fb_model.specs.Timeline.{Leg, stay, move, way, arrival, gap_legs, can_follow, leaves_on, leaves_at, led_to}
+use Rattle.fb_model.specs.Timeline.{Leg, move, arrival, can_follow, leaves_on, leaves_at}
 
 -- the legs lead from a track and an instant to another track and its instant
 abbrev pub Leads : Disk → Track → ℕ → List Leg → Track → ℕ → Type 0

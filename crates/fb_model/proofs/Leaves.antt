@@ -1,18 +1,10 @@
 -- For each leave from a track there is one of the few that are tried which is no later and catches as much.
-use Rattle.std.proofs.Common.{◌≡◌, ℕ, ◌+◌, ◌*◌, ◌≤◌, ◌⊎◌, inl, inr, List, [], ◌∷◌, Bool, true, false, ◌&&◌, ◌||◌, Some, slice_get, suc}
-use Rattle.std.proofs.Common.{nat_le, filter, refl, arith, sym, ◌∙◌}
-use Rattle.std.specs.List.{sum_by, AllByRecursion}
-use Rattle.std.proofs.lemmas.Bool.{cases_lt, cases_Bool}
-use Rattle.std.proofs.lemmas.Bool.Decides.{nat_tests}
-use Rattle.std.proofs.lemmas.List.Sums.{sum_by-cons}
-use Rattle.fb_units.specs.declared.types.Track.{Track}
-use Rattle.fb_units.specs.Tracks.{same_track}
-use Rattle.fb_seek.specs.Positioning.{pos}
-use Rattle.fb_service.specs.declared.disk.Disk.{Disk}
-use Rattle.fb_wanted.specs.declared.block.Block.{Block}
-use Rattle.fb_rows.specs.declared.gap.Gap.{Gap}
-use Rattle.fb_rows.specs.declared.gap.Plan.{Plan}
-use Rattle.fb_model.specs.Plans.{block_end, is_caught, value}
+use Rattle.fb_model.proofs.Words.{◌≡◌, ℕ, ◌+◌, ◌*◌, ◌≤◌, ◌⊎◌, inl, inr, List, [], ◌∷◌, Bool, true, false, Some, suc, nat_le, refl, arith}
+use Rattle.fb_model.proofs.Words.{sym, ◌∙◌, sum_by, AllByRecursion, cases_lt, cases_Bool, nat_tests, sum_by-cons, Track, same_track, pos}
+use Rattle.fb_model.proofs.Words.{Disk, Block, Gap, Plan, block_end, value}
+use Rattle.std.proofs.Common.{◌&&◌, ◌||◌, slice_get}
+use Rattle.std.proofs.Common.{filter}
+use Rattle.fb_model.specs.Plans.{is_caught}
 use Rattle.fb_model.proofs.Ends.{end-le, end-from-le}
 
 -- the blocks whose passage from t on ends by u

@@ -1,38 +1,17 @@
 -- No decision looks ahead: what is known of a run by an instant depends only on what has come by then.
-use Rattle.std.proofs.Common.{◌≡◌, ℕ, ◌<◌, ◌≤◌, List, [], ◌∷◌, ◌++◌, length, map, refl, ap, ap₂, sym, subst, ◌∙◌, arith, append_assoc}
-use Rattle.std.proofs.Common.{false}
-use Rattle.std.specs.Prelude.{filter}
-use Rattle.std.specs.List.{AllByRecursion, fold, flat_map}
-use Rattle.fb_units.proofs.Each.{all_any, all_unmapped}
-use Rattle.fb_units.proofs.Lists.{all_weaker, not_none, same_first, same_rest}
-use Rattle.fb_units.specs.declared.types.Track.{Track}
-use Rattle.fb_units.specs.declared.types.Request.{Request}
-use Rattle.fb_units.proofs.Filtered.{kept_map}
-use Rattle.fb_units.proofs.Comparing.{after_is}
-use Rattle.fb_geometry.specs.Sound.{IsSound}
-use Rattle.fb_script.specs.declared.call.Call.{Call}
-use Rattle.fb_service.specs.declared.disk.Disk.{Disk}
-use Rattle.fb_rows.specs.declared.gap.Dwell.{Dwell}
+use Rattle.fb_model.proofs.Words.{◌≡◌, ℕ, ◌<◌, ◌≤◌, List, [], ◌∷◌, ◌++◌, length, map, refl, ap, ap₂, sym, subst, ◌∙◌, arith, append_assoc}
+use Rattle.fb_model.proofs.Words.{false, filter, AllByRecursion, fold, flat_map, all_any, all_unmapped, all_weaker, not_none, same_first}
+use Rattle.fb_model.proofs.Words.{same_rest, Track, Request, kept_map, after_is, IsSound, Call, Disk, Dwell, BackRow, DeliveryRow, Run}
+use Rattle.fb_model.proofs.Words.{Key, has_arrived, first_track, plain_replay, Inputs, requests, served, HaveSameSectors, Medium, Written}
+use Rattle.fb_model.proofs.Words.{contents_at, medium_of, fore_row, fore_rows, Decision, idles, instant_of, end_of, Act, serving, idling}
+use Rattle.fb_model.proofs.Words.{ending, decision_of, decisions_from, decisions, among, Past, tested, wanted, test_rows, due, Delivery}
+use Rattle.fb_model.proofs.Words.{Step, decision_in, decisions_in, chosen_past, with_delivery, with_finish, tested_past, delivery_rows}
+use Rattle.fb_model.proofs.Words.{past_after, AtEach, opening, step_rows, IsAccepted, AreFollowed, HasBestPlan, IsFull, only_if}
+use Rattle.fb_model.proofs.Words.{known_from, fore_known, without_line}
 use Rattle.fb_rows.specs.declared.gap.How.TheVariants.{Idle as ByIdle}
-use Rattle.fb_rows.specs.declared.back.BackRow.{BackRow}
 use Rattle.fb_rows.specs.declared.back.BackRow.TheVariants.{Idle as BackIdle}
-use Rattle.fb_rows.specs.declared.back.DeliveryRow.{DeliveryRow}
-use Rattle.fb_rows.specs.declared.run.Run.{Run}
-use Rattle.fb_model.specs.PlainReplay.{Key, has_arrived, first_track, plain_replay}
-use Rattle.fb_model.specs.Inputs.{Inputs, requests, served, HaveSameSectors}
-use Rattle.fb_model.specs.Content.{Medium, Written, contents_at, medium_of, fore_row, fore_rows}
-use Rattle.fb_model.specs.Decisions.{Decision, idles, instant_of, end_of, Act, serving, idling, ending, decision_of, decisions_from}
-use Rattle.fb_model.specs.Decisions.{decisions, among}
-use Rattle.fb_model.specs.History.{Past, tested, wanted}
-use Rattle.fb_model.specs.Images.{test_rows}
-use Rattle.fb_model.specs.Deliveries.{due}
-use Rattle.fb_model.specs.Steps.{Delivery, Step, decision_in, decisions_in, chosen_past, with_delivery, with_finish, tested_past}
-use Rattle.fb_model.specs.Steps.{delivery_rows}
-use Rattle.fb_model.specs.Steps.{past_after, AtEach, opening, step_rows}
-use Rattle.fb_model.specs.Accepted.{IsAccepted, IsRising}
-use Rattle.fb_model.specs.SoundRun.{AreFollowed}
-use Rattle.fb_model.specs.FullRun.{HasBestPlan, IsFull}
-use Rattle.fb_model.specs.Known.{only_if, known_from, fore_known, AgreeUpTo, SameKnown, without_line}
+use Rattle.fb_model.specs.Accepted.{IsRising}
+use Rattle.fb_model.specs.Known.{AgreeUpTo, SameKnown}
 use Rattle.fb_model.proofs.Joined.{in_order}
 use Rattle.fb_model.proofs.Due.{IsDueRow, due_block, due_true}
 use Rattle.fb_model.proofs.Replays.{Rises, plain_turns}

@@ -1,39 +1,16 @@
 -- The passages of a service: one after another between its start and its finish, each for some time.
-use Rattle.std.proofs.Common.{◌≡◌, ℕ, zero, suc, ◌+◌, ◌-◌, ◌<◌, ◌≤◌, List, [], ◌∷◌, ◌++◌, length, refl, ap, sym, subst, ◌∙◌, arith, Bool}
-use Rattle.std.proofs.Common.{Some, true, false, inl, inr, nat_le}
-use Rattle.std.specs.Prelude.{slice_get, ◌==◌}
-use Rattle.std.specs.List.{AllByRecursion, fold}
-use Rattle.std.proofs.lemmas.Bool.{cases_Bool}
-use Rattle.std.proofs.lemmas.Bool.Decides.{nat_tests}
-use Rattle.fb_units.proofs.Lists.{all_weaker, all_append}
-use Rattle.fb_units.specs.declared.types.Track.{Track}
-use Rattle.fb_units.specs.declared.types.Place.{Place}
-use Rattle.fb_units.specs.declared.types.Request.{Request}
-use Rattle.fb_units.proofs.Each.{all_both, all_map}
-use Rattle.fb_geometry.specs.declared.zone.Zone.{Zone}
-use Rattle.fb_geometry.specs.Shape.{Shape, slots_at}
-use Rattle.fb_geometry.specs.Places.{places}
-use Rattle.fb_geometry.specs.Sound.{IsSound}
+use Rattle.fb_model.proofs.Words.{◌≡◌, ℕ, zero, suc, ◌+◌, ◌-◌, ◌<◌, ◌≤◌, List, [], ◌∷◌, ◌++◌, length, refl, ap, sym, subst, ◌∙◌, arith}
+use Rattle.fb_model.proofs.Words.{Bool, Some, true, false, inl, inr, nat_le, slice_get, ◌==◌, AllByRecursion, fold, cases_Bool, nat_tests}
+use Rattle.fb_model.proofs.Words.{all_weaker, all_append, Track, Place, Request, all_both, all_map, Zone, Shape, slots_at, places, IsSound}
+use Rattle.fb_model.proofs.Words.{place_at, track_at, has_place, pos, Action, Promote, Call, AreAllowed, MayAsk, Disk, Passage, begin_from}
+use Rattle.fb_model.proofs.Words.{length_of, passages, passage_from, finish_of, media_of, Block, Key, Served, service, finish, media}
+use Rattle.fb_model.proofs.Words.{last_track, behind, promoted, Inputs, requests, IsAccepted, Written, writes_of, begin_at, end_at}
+use Rattle.fb_model.proofs.Words.{lies_in}
 use Rattle.fb_geometry.proofs.Rotation.{cover}
-use Rattle.fb_sectormap.specs.LookUp.{place_at, track_at}
-use Rattle.fb_sectormap.proofs.ByCylinder.{has_place}
-use Rattle.fb_seek.specs.Positioning.{pos}
-use Rattle.fb_script.specs.declared.call.Action.{Action}
-use Rattle.fb_script.specs.declared.call.Action.TheVariants.{Promote}
-use Rattle.fb_script.specs.declared.call.Call.{Call}
-use Rattle.fb_script.specs.Allowed.{IsRange, AreAllowed, MayAsk}
-use Rattle.fb_service.specs.declared.disk.Disk.{Disk}
-use Rattle.fb_service.specs.declared.passage.Passage.{Passage}
-use Rattle.fb_service.specs.Passing.{begin_from, length_of}
-use Rattle.fb_service.specs.Service.{passages, passage_from, finish_of, media_of}
-use Rattle.fb_wanted.specs.declared.block.Block.{Block}
-use Rattle.fb_model.specs.PlainReplay.{Key, Served, service, finish, media, last_track}
-use Rattle.fb_model.specs.Foreground.{behind, read_of, promoted_from, promoted}
-use Rattle.fb_model.specs.Inputs.{Inputs, requests}
-use Rattle.fb_model.specs.Accepted.{IsAccepted, IsRequestOf}
+use Rattle.fb_script.specs.Allowed.{IsRange}
+use Rattle.fb_model.specs.Foreground.{read_of, promoted_from}
+use Rattle.fb_model.specs.Accepted.{IsRequestOf}
 use Rattle.fb_store.specs.Writes.{writer_of}
-use Rattle.fb_model.specs.Content.{Written, writes_of}
-use Rattle.fb_model.specs.Deliveries.{begin_at, end_at, lies_in}
 use Rattle.fb_model.proofs.Picks.{all_picked}
 use Rattle.fb_model.proofs.Replays.{AreTurns, IsTurn}
 

@@ -1,15 +1,11 @@
 -- The pick is the first request of least key, and the others stay in their order.
-use Rattle.std.proofs.Common.{inl, inr, ◌∙◌, ◌≡◌, ℕ, ◌≤◌, ◌<◌, List, [], ◌∷◌, ◌++◌, refl, true, false, Bool, cond, Option, Some, None}
-use Rattle.std.proofs.Common.{arith, sym, subst, ap, nat_le, leb→le}
-use Rattle.std.specs.Prelude.{if◌then◌else◌}
-use Rattle.std.specs.List.{AllByRecursion}
-use Rattle.std.proofs.lemmas.Bool.{cases_Bool}
-use Rattle.std.proofs.lemmas.Bool.Decides.{nat_tests}
-use Rattle.fb_units.proofs.Comparing.{is_after}
-use Rattle.fb_units.specs.declared.types.Request.{Request}
+use Rattle.fb_model.proofs.Words.{inl, inr, ◌∙◌, ◌≡◌, ℕ, ◌≤◌, ◌<◌, List, [], ◌∷◌, ◌++◌, refl, true, false, Bool, cond, Option, Some, None}
+use Rattle.fb_model.proofs.Words.{arith, sym, subst, ap, nat_le, if◌then◌else◌, AllByRecursion, cases_Bool, nat_tests, is_after, Request}
+use Rattle.fb_model.proofs.Words.{first_ready, has_arrived, IsFirstReady, IsReadyPickOf}
+use Rattle.std.proofs.Common.{leb→le}
 use Rattle.fb_store.proofs.Runs.{so}
-use Rattle.fb_model.specs.PlainReplay.{better, first_least, kept, pick_with, first_ready, has_arrived}
-use Rattle.fb_model.specs.Laws.{IsFirstLeast, IsPickOf, IsFirstReady, IsReadyPickOf}
+use Rattle.fb_model.specs.PlainReplay.{better, first_least, kept, pick_with}
+use Rattle.fb_model.specs.Laws.{IsFirstLeast, IsPickOf}
 
 -- no key is smaller than the pick's
 all_least : (key : Request → ℕ) (least : ℕ) (pick : Request) (front back : List Request) → least ≤ key pick

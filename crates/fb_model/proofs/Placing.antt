@@ -1,19 +1,11 @@
 -- Catches put in the order of delivery: what holds of each still does, none ends before the one before it.
-use Rattle.std.proofs.Common.{◌≡◌, ℕ, ◌≤◌, List, [], ◌∷◌, Bool, true, false, map, filter, nat_le, arith, inl, inr, refl, ap, ◌∙◌}
-use Rattle.std.specs.Prelude.{◌&&◌, ◌||◌, ◌==◌, nat_lt}
-use Rattle.std.specs.List.{AllByRecursion, fold}
-use Rattle.std.proofs.lemmas.Bool.{cases_Bool, true≢false, or_cases, and_parts, eqb-true}
-use Rattle.std.proofs.lemmas.Bool.Decides.{nat_tests}
-use Rattle.fb_units.specs.declared.types.Request.{Request}
-use Rattle.fb_units.proofs.Lists.{all_filter, all_weaker}
-use Rattle.fb_units.proofs.Each.{all_any, all_map, all_pass, all_with}
-use Rattle.fb_service.specs.declared.disk.Disk.{Disk}
-use Rattle.fb_service.specs.declared.passage.Passage.{Passage}
-use Rattle.fb_wanted.specs.declared.block.Block.{Block}
-use Rattle.fb_rows.specs.declared.gap.Catch.{Catch}
-use Rattle.fb_rows.specs.declared.gap.Dwell.{Dwell}
-use Rattle.fb_model.specs.Plans.{catches}
-use Rattle.fb_model.specs.Deliveries.{is_before, placed, in_order, catch_of, caught_of, lies_in, ride_of, carried_of}
+use Rattle.fb_model.proofs.Words.{◌≡◌, ℕ, ◌≤◌, List, [], ◌∷◌, Bool, true, false, map, nat_le, arith, inl, inr, refl, ap, ◌∙◌, ◌&&◌, ◌||◌}
+use Rattle.fb_model.proofs.Words.{◌==◌, nat_lt, AllByRecursion, fold, cases_Bool, true≢false, or_cases, and_parts, nat_tests, Request}
+use Rattle.fb_model.proofs.Words.{all_filter, all_weaker, all_any, all_map, all_pass, all_with, Disk, Passage, Block, Catch, Dwell}
+use Rattle.fb_model.proofs.Words.{catches, in_order, catch_of, caught_of, lies_in, ride_of, carried_of}
+use Rattle.std.proofs.Common.{filter}
+use Rattle.std.proofs.lemmas.Bool.{eqb-true}
+use Rattle.fb_model.specs.Deliveries.{is_before, placed}
 
 -- ---- what holds of each
 

@@ -1,24 +1,12 @@
 -- The head can go the way that the rows of a run's steps tell.
-use Rattle.std.proofs.Common.{◌≡◌, ℕ, List, [], ◌∷◌, ◌++◌, map, ap, sym, subst, ◌∙◌, Some, append_assoc}
-use Rattle.std.specs.List.{AllByRecursion, flat_map, fold}
-use Rattle.fb_units.specs.declared.types.Request.{Request}
-use Rattle.fb_units.specs.declared.types.Track.{Track}
-use Rattle.fb_geometry.specs.Sound.{IsSound}
-use Rattle.fb_service.specs.declared.disk.Disk.{Disk}
-use Rattle.fb_rows.specs.declared.fore.ForeRow.{ForeRow}
-use Rattle.fb_rows.specs.declared.gap.Plan.{Plan}
-use Rattle.fb_rows.specs.declared.back.BackRow.{BackRow}
-use Rattle.fb_model.specs.PlainReplay.{Served, service, media, target, finish, last_track, first_track}
-use Rattle.fb_model.specs.Inputs.{Inputs}
-use Rattle.fb_model.specs.Content.{Medium, medium_of, fore_row, fore_rows}
-use Rattle.fb_model.specs.Accepted.{IsAccepted}
-use Rattle.fb_model.specs.Timeline.{stay, gap_legs, service_legs, timeline, led_to, IsPossible}
-use Rattle.fb_model.specs.Plans.{IsPlan}
-use Rattle.fb_model.specs.Deliveries.{gap_of}
-use Rattle.fb_model.specs.Decisions.{end_of, Act, serving, idling, ending, decision_of, decisions, run_end}
-use Rattle.fb_model.specs.History.{Past}
-use Rattle.fb_model.specs.Steps.{Step, decisions_in, past_after, AtEach, opening, step_rows, task_rows, delivery_rows}
-use Rattle.fb_model.specs.SoundRun.{IsPlanned, HasPlan, IsTested, Throughout}
+use Rattle.fb_model.proofs.Words.{◌≡◌, ℕ, List, [], ◌∷◌, ◌++◌, map, ap, sym, subst, ◌∙◌, Some, append_assoc, AllByRecursion, flat_map}
+use Rattle.fb_model.proofs.Words.{fold, Request, Track, IsSound, Disk, ForeRow, Plan, BackRow, Served, service, media, finish, last_track}
+use Rattle.fb_model.proofs.Words.{first_track, Inputs, Medium, medium_of, fore_row, fore_rows, IsAccepted, stay, gap_legs, timeline}
+use Rattle.fb_model.proofs.Words.{led_to, IsPossible, IsPlan, gap_of, end_of, Act, serving, idling, ending, decision_of, decisions}
+use Rattle.fb_model.proofs.Words.{run_end, Past, Step, decisions_in, past_after, AtEach, opening, step_rows, task_rows, delivery_rows}
+use Rattle.fb_model.proofs.Words.{IsPlanned, HasPlan, IsTested, Throughout}
+use Rattle.fb_model.specs.PlainReplay.{target}
+use Rattle.fb_model.specs.Timeline.{service_legs}
 use Rattle.fb_model.proofs.Leads.{Leads, lead_on, lead_gap, lead_stay}
 use Rattle.fb_model.proofs.Passages.{LiesOnDisk, requests_lie}
 use Rattle.fb_model.proofs.Ways.{lead_service, have_angles}

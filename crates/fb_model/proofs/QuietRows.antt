@@ -1,19 +1,8 @@
 -- Rows that say nothing of where the head is: tests of completion, findings, deliveries and tasks.
-use Rattle.std.proofs.Common.{◌≡◌, ℕ, List, [], ◌∷◌, ◌++◌, map, refl, sym, subst}
-use Rattle.std.specs.List.{AllByRecursion}
-use Rattle.fb_units.proofs.Each.{all_any}
-use Rattle.fb_service.specs.declared.disk.Disk.{Disk}
-use Rattle.fb_rows.specs.declared.fore.ForeRow.{ForeRow}
-use Rattle.fb_rows.specs.declared.back.BackRow.{BackRow}
+use Rattle.fb_model.proofs.Words.{◌≡◌, ℕ, List, [], ◌∷◌, ◌++◌, map, refl, sym, subst, AllByRecursion, all_any, Disk, ForeRow, BackRow}
+use Rattle.fb_model.proofs.Words.{DeliveryRow, Inputs, Medium, timeline, instant_of, Past, Delivery, Step, decision_in, tested_past}
+use Rattle.fb_model.proofs.Words.{chosen_past, task_rows, delivery_rows, IsTested}
 use Rattle.fb_rows.specs.declared.back.BackRow.TheVariants.{Gap as BackGap, Idle as BackIdle}
-use Rattle.fb_rows.specs.declared.back.DeliveryRow.{DeliveryRow}
-use Rattle.fb_model.specs.Inputs.{Inputs}
-use Rattle.fb_model.specs.Content.{Medium}
-use Rattle.fb_model.specs.Timeline.{timeline}
-use Rattle.fb_model.specs.Decisions.{instant_of}
-use Rattle.fb_model.specs.History.{Past}
-use Rattle.fb_model.specs.Steps.{Delivery, Step, decision_in, tested_past, chosen_past, task_rows, delivery_rows}
-use Rattle.fb_model.specs.SoundRun.{IsTested}
 use Rattle.fb_model.proofs.EachRow.{TestHas, RowsHave, AnyEnds, any_linked, tests_have, followed_have, tasks_have}
 
 -- no gap row and no idle row

@@ -1,28 +1,14 @@
 -- The plain replay serves each request once, in turn, and is the only one that follows the rules.
-use Rattle.std.proofs.Common.{◌≡◌, ℕ, zero, suc, ◌+◌, ◌<◌, ◌≤◌, List, [], ◌∷◌, ◌++◌, length, map, refl, ap, sym, subst, ◌∙◌, arith, Bool}
-use Rattle.std.proofs.Common.{true, false, true≢false, Option, Some, None, inl, inr, nat_le, IsPermutation}
-use Rattle.std.specs.Prelude.{◌||◌, if◌then◌else◌, unwrap_or}
-use Rattle.std.specs.Option.{option_map}
-use Rattle.std.specs.List.{AllByRecursion, list_any}
-use Rattle.std.proofs.lemmas.Bool.{cases_Bool, cases_lt}
-use Rattle.std.proofs.lemmas.Bool.Decides.{nat_tests}
-use Rattle.std.proofs.lemmas.List.{length-append}
-use Rattle.std.proofs.lemmas.List.Sorted.{IsPermutation-refl, IsPermutation-trans, IsPermutation-cons, IsPermutation-middle}
-use Rattle.fb_units.proofs.Each.{all_map}
-use Rattle.fb_units.specs.declared.types.Track.{Track}
-use Rattle.fb_units.specs.declared.types.Request.{Request}
-use Rattle.fb_units.specs.Rising.{IsRising}
-use Rattle.fb_sectormap.specs.LookUp.{track_at}
-use Rattle.fb_seek.specs.Positioning.{pos}
-use Rattle.fb_service.specs.declared.disk.Disk.{Disk}
-use Rattle.fb_service.specs.Passing.{begin_from}
-use Rattle.fb_service.specs.Service.{passages, passage_from, finish_of}
-use Rattle.fb_model.specs.PlainReplay.{Key, Served, finish, last_track, service, has_arrived, first_ready, start_of, plain, first_track}
-use Rattle.fb_model.specs.PlainReplay.{plain_replay}
-use Rattle.fb_rows.specs.declared.fore.ForeRow.{ForeRow}
-use Rattle.fb_model.specs.Inputs.{Inputs, requests, served}
-use Rattle.fb_model.specs.Content.{Medium, medium_of, fore_row, fore_rows}
-use Rattle.fb_model.specs.Laws.{AreOneByOne, HaveOneRow, IsFirstReady, IsReadyPickOf, AreInTurn, ServesEachOnce, IsReadyAt, IsServedNext}
+use Rattle.fb_model.proofs.Words.{◌≡◌, ℕ, zero, suc, ◌+◌, ◌<◌, ◌≤◌, List, [], ◌∷◌, ◌++◌, length, map, refl, ap, sym, subst, ◌∙◌, arith}
+use Rattle.fb_model.proofs.Words.{Bool, true, false, Option, Some, None, inl, inr, nat_le, IsPermutation, ◌||◌, if◌then◌else◌, unwrap_or}
+use Rattle.fb_model.proofs.Words.{option_map, AllByRecursion, list_any, cases_Bool, cases_lt, nat_tests, length-append, IsPermutation-refl}
+use Rattle.fb_model.proofs.Words.{IsPermutation-trans, IsPermutation-cons, all_map, Track, Request, IsRising, track_at, pos, Disk}
+use Rattle.fb_model.proofs.Words.{begin_from, passages, passage_from, finish_of, Key, Served, finish, last_track, service, has_arrived}
+use Rattle.fb_model.proofs.Words.{first_ready, start_of, plain, first_track, plain_replay, ForeRow, Inputs, requests, served, Medium}
+use Rattle.fb_model.proofs.Words.{medium_of, fore_row, fore_rows, IsFirstReady, IsReadyPickOf, IsReadyAt}
+use Rattle.std.proofs.Common.{true≢false}
+use Rattle.std.proofs.lemmas.List.Sorted.{IsPermutation-middle}
+use Rattle.fb_model.specs.Laws.{AreOneByOne, HaveOneRow, AreInTurn, ServesEachOnce, IsServedNext}
 use Rattle.fb_model.specs.Laws.{FollowsRules, IsOnlyReplay}
 use Rattle.fb_model.proofs.Picks.{ready_pick, one_pick}
 

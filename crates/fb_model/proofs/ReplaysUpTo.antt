@@ -1,19 +1,9 @@
 -- Up to an instant the plain replay depends only on the requests that have arrived by then.
-use Rattle.std.proofs.Common.{◌≡◌, ℕ, ◌≤◌, ◌<◌, max, List, [], ◌∷◌, ◌++◌, refl, ap, sym, subst, ◌∙◌, arith, true, false, true≢false}
-use Rattle.std.proofs.Common.{Some, inl, inr}
-use Rattle.std.specs.Prelude.{◌||◌, filter}
-use Rattle.std.specs.List.{AllByRecursion, list_any}
-use Rattle.std.proofs.lemmas.Bool.{cases_Bool, cases_lt}
-use Rattle.std.proofs.lemmas.Bool.Decides.{nat_tests}
-use Rattle.std.proofs.lemmas.List.Elements.{filter-append}
-use Rattle.fb_units.proofs.Each.{all_unmapped}
-use Rattle.fb_units.proofs.Lists.{all_weaker, all_filter}
-use Rattle.fb_units.specs.declared.types.Track.{Track}
-use Rattle.fb_units.specs.declared.types.Request.{Request}
-use Rattle.fb_units.proofs.Comparing.{by_is}
-use Rattle.fb_service.specs.declared.disk.Disk.{Disk}
-use Rattle.fb_model.specs.PlainReplay.{Key, Served, finish, last_track, service, has_arrived, first_ready}
-use Rattle.fb_model.specs.Laws.{IsFirstReady, IsReadyAt}
+use Rattle.fb_model.proofs.Words.{◌≡◌, ℕ, ◌≤◌, ◌<◌, max, List, [], ◌∷◌, ◌++◌, refl, ap, sym, subst, ◌∙◌, arith, true, false, Some, inl}
+use Rattle.fb_model.proofs.Words.{inr, ◌||◌, filter, AllByRecursion, list_any, cases_Bool, cases_lt, nat_tests, filter-append}
+use Rattle.fb_model.proofs.Words.{all_unmapped, all_weaker, all_filter, Track, Request, by_is, Disk, Key, Served, finish, last_track}
+use Rattle.fb_model.proofs.Words.{service, has_arrived, first_ready, IsFirstReady, IsReadyAt}
+use Rattle.std.proofs.Common.{true≢false}
 use Rattle.fb_model.proofs.Picks.{one_pick}
 use Rattle.fb_model.proofs.Replays.{IsTurn, AreTurns, Rises, turn_start, turns_end, all_from, rest_rises}
 

@@ -1,29 +1,15 @@
 -- Which rows are known by an instant: none of a test or a delivery after it. And what is known by then is the same where the disk holds the
 -- same.
-use Rattle.std.proofs.Common.{◌≡◌, ℕ, ◌<◌, ◌≤◌, List, [], ◌∷◌, ◌++◌, map, refl, ap, ap₂, sym, subst, ◌∙◌, arith, append_assoc, Bool, true}
-use Rattle.std.proofs.Common.{false, inl, inr, nat_le}
-use Rattle.std.specs.Prelude.{filter, ◌&&◌, if◌then◌else◌}
-use Rattle.std.specs.List.{AllByRecursion}
-use Rattle.std.proofs.lemmas.Bool.{cases_Bool}
-use Rattle.fb_units.proofs.Comparing.{after_is, is_after, is_by}
-use Rattle.fb_units.proofs.Lists.{all_dropped, all_weaker, not_none, same_first, same_rest}
-use Rattle.fb_units.proofs.Filtered.{none_kept}
-use Rattle.fb_units.proofs.Alike.{flat_map_same, same_map}
-use Rattle.fb_store.specs.Runs.{runs_of}
-use Rattle.fb_wanted.specs.declared.block.Block.{Block}
-use Rattle.fb_wanted.specs.States.{is_delivered}
-use Rattle.fb_rows.specs.declared.back.BackRow.{BackRow}
+use Rattle.fb_model.proofs.Words.{◌≡◌, ℕ, ◌<◌, ◌≤◌, List, [], ◌∷◌, ◌++◌, map, refl, ap, ap₂, sym, subst, ◌∙◌, arith, append_assoc, Bool}
+use Rattle.fb_model.proofs.Words.{true, false, inl, inr, nat_le, filter, ◌&&◌, if◌then◌else◌, AllByRecursion, cases_Bool, after_is}
+use Rattle.fb_model.proofs.Words.{is_after, is_by, all_dropped, all_weaker, not_none, same_first, same_rest, none_kept, flat_map_same}
+use Rattle.fb_model.proofs.Words.{same_map, runs_of, Block, is_delivered, BackRow, DeliveryRow, Medium, contents_at, Past, delivered}
+use Rattle.fb_model.proofs.Words.{task_numbers, terms_of, blocks_of, same_block, is_open_backup, Choice, choices, work, is_complete}
+use Rattle.fb_model.proofs.Words.{bad_sectors, is_scrub, findings, held_at_delivery, packed, is_newly_cleaned, segment_rows, image}
+use Rattle.fb_model.proofs.Words.{segment_row, seal_rows, complete_rows, test_rows, Delivery, with_delivery, task_row, task_rows}
+use Rattle.fb_model.proofs.Words.{delivery_rows, AreFollowed, only_if, known_from}
 use Rattle.fb_rows.specs.declared.back.BackRow.TheVariants.{Got as BackGot, Bad as BackBad, Seal as BackSeal}
-use Rattle.fb_rows.specs.declared.back.DeliveryRow.{DeliveryRow}
-use Rattle.fb_model.specs.Content.{Medium, contents_at}
-use Rattle.fb_model.specs.History.{Past, delivered, task_numbers, terms_of, blocks_of, same_block}
-use Rattle.fb_model.specs.History.{is_open_backup}
-use Rattle.fb_model.specs.Completion.{Choice, choices, work, is_complete}
-use Rattle.fb_model.specs.Images.{bad_sectors, is_scrub, findings, held_at_delivery, packed, is_newly_cleaned, segment_rows, image}
-use Rattle.fb_model.specs.Images.{segment_row, seal_rows, complete_rows, test_rows}
-use Rattle.fb_model.specs.Steps.{Delivery, with_delivery, task_row, task_rows, delivery_rows}
-use Rattle.fb_model.specs.SoundRun.{AreFollowed}
-use Rattle.fb_model.specs.Known.{is_known, follows_known, only_if, known_from}
+use Rattle.fb_model.specs.Known.{is_known, follows_known}
 use Rattle.fb_model.proofs.FullRuns.{gots}
 use Rattle.fb_model.proofs.ContentsUpTo.{HoldSame, same_contents}
 use Rattle.fb_model.proofs.HistoriesUpTo.{AreFine, HasBegun}

@@ -1,8 +1,7 @@
 -- Each angle lies in one slot.
-use Rattle.std.proofs.Common.{◌≡◌, ℕ, zero, suc, ◌+◌, ◌*◌, ◌/◌, ◌<◌, ◌≤◌, arith, inl, inr}
-use Rattle.std.proofs.lemmas.Nat.{le-div, div-add-mod', mul-le}
-use Rattle.std.proofs.lemmas.Bool.{cases_lt}
-use Rattle.fb_geometry.specs.Angles.{slot_begin}
+use Rattle.fb_model.proofs.Words.{◌≡◌, ℕ, zero, suc, ◌+◌, ◌*◌, ◌<◌, ◌≤◌, arith, inl, inr, mul-le, cases_lt, slot_begin}
+use Rattle.std.proofs.Common.{◌/◌}
+use Rattle.std.proofs.lemmas.Nat.{le-div, div-add-mod'}
 use Rattle.fb_model.specs.Laws.{IsInSlot, HasOneSlot}
 
 module _ (rotation n : ℕ) (some : 0 < n) where

@@ -1,12 +1,7 @@
 -- The state of a block begins with its registration.
-use Rattle.std.proofs.Common.{◌≡◌, List, [], ◌∷◌, ◌++◌, Bool, true, false, ap, refl, sym, inl, inr, arith}
-use Rattle.std.specs.List.{list_any}
-use Rattle.std.proofs.lemmas.Bool.{cases_Bool, true≢false}
-use Rattle.std.proofs.lemmas.List.Folds.{list_any-append}
-use Rattle.fb_wanted.specs.declared.block.Block.{Block}
-use Rattle.fb_wanted.specs.declared.block.State.{State}
-use Rattle.fb_wanted.specs.declared.block.State.TheVariants.{Wanted}
-use Rattle.fb_model.specs.History.{Event, called, chose, Past, registered, registers, same_block}
+use Rattle.fb_model.proofs.Words.{◌≡◌, List, [], ◌∷◌, ◌++◌, Bool, true, false, ap, refl, sym, inl, inr, arith, list_any, cases_Bool}
+use Rattle.fb_model.proofs.Words.{true≢false, list_any-append, Block, State, Wanted, Event, called, chose, Past, registered, registers}
+use Rattle.fb_model.proofs.Words.{same_block}
 use Rattle.fb_model.specs.History.{state_after_event, state_from}
 
 first_any : {X : Type 0} (p : X → Bool) (xs ys : List X) → list_any p ys ≡ false → list_any p (xs ++ ys) ≡ true → list_any p xs ≡ true

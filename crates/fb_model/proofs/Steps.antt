@@ -1,15 +1,6 @@
 -- A run's steps, one after another, and what a step is by its decision.
-use Rattle.std.proofs.Common.{◌≡◌, List, [], ◌∷◌, ◌++◌, ap, refl}
-use Rattle.std.specs.List.{fold}
-use Rattle.fb_wanted.specs.declared.block.Block.{Block}
-use Rattle.fb_rows.specs.declared.gap.Dwell.{Dwell}
-use Rattle.fb_service.specs.declared.disk.Disk.{Disk}
-use Rattle.fb_model.specs.Inputs.{Inputs}
-use Rattle.fb_model.specs.Decisions.{idles, Act, serving, idling, ending, decision_of}
-use Rattle.fb_model.specs.History.{Past}
-use Rattle.fb_model.specs.Steps.{Step, decision_in, past_after, AtEach}
-use Rattle.fb_model.specs.SoundRun.{HasPlan}
-use Rattle.fb_model.specs.FullRun.{HasBestPlan}
+use Rattle.fb_model.proofs.Words.{◌≡◌, List, [], ◌∷◌, ◌++◌, ap, refl, fold, Block, Dwell, Disk, Inputs, idles, Act, serving, idling}
+use Rattle.fb_model.proofs.Words.{ending, decision_of, Past, Step, decision_in, past_after, AtEach, HasPlan, HasBestPlan}
 
 -- the history goes on from what it was
 pub history-append : (inputs : Inputs) (past : Past) (xs ys : List Step)

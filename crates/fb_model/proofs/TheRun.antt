@@ -1,27 +1,10 @@
 -- The run that is made decision by decision is the full one.
-use Rattle.std.proofs.Common.{◌≡◌, ℕ, zero, suc, ◌+◌, ◌<◌, ◌≤◌, List, [], ◌∷◌, map, refl, ap, ap₂, sym, subst, arith}
-use Rattle.fb_units.specs.declared.types.Track.{Track}
-use Rattle.fb_seek.specs.Positioning.{pos}
-use Rattle.fb_sectormap.specs.LookUp.{track_at}
-use Rattle.fb_service.specs.declared.disk.Disk.{Disk}
-use Rattle.fb_service.specs.Service.{passages, media_of}
-use Rattle.fb_wanted.specs.declared.block.Block.{Block}
-use Rattle.fb_rows.specs.declared.back.DeliveryRow.{DeliveryRow}
-use Rattle.fb_rows.specs.declared.gap.Plan.TheVariants.{Direct}
+use Rattle.fb_model.proofs.Words.{◌≡◌, ℕ, zero, suc, ◌+◌, ◌<◌, ◌≤◌, List, [], ◌∷◌, map, refl, ap, ap₂, sym, subst, arith, Track, pos}
+use Rattle.fb_model.proofs.Words.{track_at, Disk, passages, media_of, Block, DeliveryRow, Direct, Served, service, finish, last_track}
+use Rattle.fb_model.proofs.Words.{first_track, Inputs, Medium, medium_of, IsPlan, Decision, serves, idles, ends, decision_of, decisions}
+use Rattle.fb_model.proofs.Words.{Past, wanted, gap_of, Delivery, decisions_in, chosen_past, with_delivery, past_after, AtEach}
+use Rattle.fb_model.proofs.Words.{AreFollowed, HasBestPlan, IsFull, timeline, IsPossible, Run, AllByRecursion}
 use Rattle.std.specs.Prelude.{Bool}
-use Rattle.fb_model.specs.PlainReplay.{Served, service, finish, last_track, first_track}
-use Rattle.fb_model.specs.Inputs.{Inputs}
-use Rattle.fb_model.specs.Content.{Medium, medium_of}
-use Rattle.fb_model.specs.Plans.{IsPlan}
-use Rattle.fb_model.specs.Decisions.{Decision, serves, idles, ends, decision_of, decisions}
-use Rattle.fb_model.specs.History.{Past, wanted}
-use Rattle.fb_model.specs.Deliveries.{gap_of}
-use Rattle.fb_model.specs.Steps.{Delivery, decisions_in, chosen_past, with_delivery, past_after, AtEach}
-use Rattle.fb_model.specs.SoundRun.{AreFollowed}
-use Rattle.fb_model.specs.FullRun.{HasBestPlan, IsFull}
-use Rattle.fb_model.specs.Timeline.{timeline, IsPossible}
-use Rattle.fb_rows.specs.declared.run.Run.{Run}
-use Rattle.std.specs.List.{AllByRecursion}
 use Rattle.fb_model.specs.TheRun.{act_at, followed, all_followed, step_at, steps_at, the_steps, the_run, FullRunsExist}
 use Rattle.fb_model.proofs.Passages.{LiesOnDisk, requests_lie, from_on}
 use Rattle.fb_model.proofs.Chain.{Follow, decisions_follow}

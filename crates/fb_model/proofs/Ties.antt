@@ -1,17 +1,9 @@
 -- The order of plans.
-use Rattle.std.proofs.Common.{ℕ, inl, inr, List, refl, arith, sym, ◌∙◌, subst}
-use Rattle.std.proofs.Common.{◌≡◌, ◌⊎◌, true, false, nat_lt}
-use Rattle.std.proofs.lemmas.Bool.{cases_order, or_cases}
-use Rattle.std.proofs.lemmas.Bool.Decides.{nat_tests}
-use Rattle.fb_units.proofs.Tracks.{same_fields}
-use Rattle.fb_units.specs.declared.types.Track.{Track}
-use Rattle.fb_service.specs.declared.disk.Disk.{Disk}
-use Rattle.fb_wanted.specs.declared.block.Block.{Block}
-use Rattle.fb_rows.specs.declared.gap.Gap.{Gap}
-use Rattle.fb_rows.specs.declared.gap.Plan.{Plan}
-use Rattle.fb_rows.specs.declared.gap.Plan.TheVariants.{Direct, Detour}
-use Rattle.fb_model.specs.BestPlan.{is_track_before}
-use Rattle.fb_model.specs.Plans.{IsPlan, IsNoLater, IsNoWorse, IsTrackBefore, IsBest}
+use Rattle.fb_model.proofs.Words.{ℕ, inl, inr, List, refl, arith, sym, ◌∙◌, subst, ◌≡◌, ◌⊎◌, true, false, or_cases, nat_tests, same_fields}
+use Rattle.fb_model.proofs.Words.{Track, Disk, Block, Gap, Plan, Direct, Detour, is_track_before, IsPlan, IsNoLater, IsNoWorse}
+use Rattle.fb_model.proofs.Words.{IsTrackBefore, IsBest}
+use Rattle.std.proofs.Common.{nat_lt}
+use Rattle.std.proofs.lemmas.Bool.{cases_order}
 
 pub before_is : (a b : Track) → is_track_before a b ≡ true → IsTrackBefore a b
 before_is a b h = elim (or_cases (nat_lt a.cylinder b.cylinder) _ h) [

@@ -1,22 +1,12 @@
 -- The leaves that are worth a try, and the tracks of a disk, one by one.
-use Rattle.std.proofs.Common.{◌≡◌, ℕ, suc, ◌+◌, ◌≤◌, List, ◌∷◌, Bool, true, Some, map, filter, ap, subst, sym, ◌∙◌, arith, inl, inr}
-use Rattle.std.proofs.Common.{nat_le}
-use Rattle.std.specs.List.{AllByRecursion, range_with_len}
-use Rattle.std.proofs.lemmas.Bool.Decides.{nat_tests}
-use Rattle.fb_units.proofs.Each.{all_any, all_both, all_flat, all_map, all_pass, all_unmapped, flat_all}
+use Rattle.fb_model.proofs.Words.{◌≡◌, ℕ, suc, ◌+◌, ◌≤◌, List, ◌∷◌, Bool, true, Some, map, ap, subst, sym, ◌∙◌, arith, inl, inr, nat_le}
+use Rattle.fb_model.proofs.Words.{AllByRecursion, range_with_len, nat_tests, all_any, all_both, all_flat, all_map, all_pass, all_unmapped}
+use Rattle.fb_model.proofs.Words.{flat_all, all_filter, all_range, all_weaker, same_fields, Track, same_track, Shape, IsTrackOf}
+use Rattle.fb_model.proofs.Words.{cylinders_of, pos, Disk, Block, Gap, block_end, tracks_of, leaves}
+use Rattle.std.proofs.Common.{filter}
 use Rattle.fb_units.proofs.Filtered.{filter_to}
-use Rattle.fb_units.proofs.Lists.{all_filter, all_get, all_range, all_weaker, map_at}
+use Rattle.fb_units.proofs.Lists.{all_get, map_at}
 use Rattle.fb_units.proofs.Parts.{get_range}
-use Rattle.fb_units.proofs.Tracks.{same_fields}
-use Rattle.fb_units.specs.declared.types.Track.{Track}
-use Rattle.fb_units.specs.Tracks.{same_track}
-use Rattle.fb_geometry.specs.Shape.{Shape, IsTrackOf, cylinders_of}
-use Rattle.fb_seek.specs.Positioning.{pos}
-use Rattle.fb_service.specs.declared.disk.Disk.{Disk}
-use Rattle.fb_wanted.specs.declared.block.Block.{Block}
-use Rattle.fb_rows.specs.declared.gap.Gap.{Gap}
-use Rattle.fb_model.specs.Plans.{block_end}
-use Rattle.fb_model.specs.BestPlan.{tracks_of, leaves}
 use Rattle.fb_model.proofs.Ends.{end-from-le}
 use Rattle.fb_model.proofs.Leaves.{StandsFor}
 

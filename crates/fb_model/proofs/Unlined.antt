@@ -1,47 +1,27 @@
 -- Nothing looks at the number of a call's line: without it the history says the same.
-use Rattle.std.proofs.Common.{◌≡◌, ℕ, zero, suc, List, [], ◌∷◌, ◌++◌, length, length-append, map, drop, refl, ap, ap₂, sym, subst, ◌∙◌}
-use Rattle.std.proofs.Common.{arith, Bool, true, false, nat_le}
-use Rattle.std.specs.Prelude.{filter, ◌&&◌, ◌||◌, ◌==◌, not, if◌then◌else◌}
-use Rattle.std.specs.List.{fold, flat_map, list_any, range_with_len, best_of}
+use Rattle.fb_model.proofs.Words.{◌≡◌, ℕ, zero, suc, List, [], ◌∷◌, ◌++◌, length, map, drop, refl, ap, ap₂, sym, subst, ◌∙◌, arith, Bool}
+use Rattle.fb_model.proofs.Words.{true, false, nat_le, filter, ◌&&◌, ◌||◌, ◌==◌, not, if◌then◌else◌, fold, flat_map, list_any}
+use Rattle.fb_model.proofs.Words.{range_with_len, best_of, kept_map, flat_map_same, same_map, Shape, Action, Want, Call, Terms, live_cuts}
+use Rattle.fb_model.proofs.Words.{is_clean, cutting, runs_of, Block, State, Wanted, is_wanted, is_delivered, DeliveryRow, Inputs, Medium}
+use Rattle.fb_model.proofs.Words.{contents_at, Decision, serves, idles, ends, instant_of, Event, called, chose, tested, delivered, Past}
+use Rattle.fb_model.proofs.Words.{LogSegment, calls_of, opened_by, tasks, task_numbers, terms_of, registered, blocks_of, same_block}
+use Rattle.fb_model.proofs.Words.{registers, is_open_backup, bare_state, content_of, state, wanted, segments, Choice, choices, is_closed}
+use Rattle.fb_model.proofs.Words.{own_of, work, is_complete, was_complete, numbered, is_better, unchosen, is_busy, choose_best}
+use Rattle.fb_model.proofs.Words.{choose_once, choose_up_to, choose_in, with_choices, bad_sectors, is_scrub, findings, held_at_delivery}
+use Rattle.fb_model.proofs.Words.{packed, is_newly_cleaned, segment_rows, image, segment_row, seal_rows, complete_rows, test_rows, due}
+use Rattle.fb_model.proofs.Words.{Delivery, Step, decision_in, blocks_by, take_call, calls_due, chosen_past, with_delivery, with_finish}
+use Rattle.fb_model.proofs.Words.{tested_past, past_after, AtEach, AreFollowed, HasBestPlan, without_line}
+use Rattle.std.proofs.Common.{length-append}
 use Rattle.std.proofs.lemmas.List.{drop-map}
 use Rattle.std.proofs.lemmas.List.Elements.{filter_agree}
-use Rattle.fb_units.proofs.Filtered.{kept_map}
-use Rattle.fb_units.proofs.Alike.{flat_map_same, same_map}
-use Rattle.fb_geometry.specs.Shape.{Shape}
-use Rattle.fb_script.specs.declared.call.Action.{Action}
-use Rattle.fb_script.specs.declared.call.Action.TheVariants.{Want}
-use Rattle.fb_script.specs.declared.call.Call.{Call}
-use Rattle.fb_script.specs.Allowed.{Terms}
-use Rattle.fb_script.specs.Blocks.{live_cuts}
-use Rattle.fb_script.specs.Sessions.{is_backup, is_clean}
-use Rattle.fb_sectormap.specs.Cutting.{cutting}
-use Rattle.fb_store.specs.Runs.{runs_of}
-use Rattle.fb_wanted.specs.declared.block.Block.{Block}
-use Rattle.fb_wanted.specs.declared.block.State.{State}
-use Rattle.fb_wanted.specs.declared.block.State.TheVariants.{Wanted, Suspended, Delivered, Aborted}
-use Rattle.fb_wanted.specs.States.{is_wanted, is_delivered}
+use Rattle.fb_script.specs.Sessions.{is_backup}
+use Rattle.fb_wanted.specs.declared.block.State.TheVariants.{Suspended, Delivered, Aborted}
 use Rattle.fb_rows.specs.declared.back.BackRow.TheVariants.{Bad as BackBad, Seal as BackSeal}
 use Rattle.fb_rows.specs.declared.back.BackRow.TheVariants.{Complete as BackComplete}
-use Rattle.fb_rows.specs.declared.back.DeliveryRow.{DeliveryRow}
-use Rattle.fb_model.specs.Inputs.{Inputs}
-use Rattle.fb_model.specs.Content.{Medium, contents_at}
-use Rattle.fb_model.specs.Decisions.{Decision, serves, idles, ends, instant_of}
-use Rattle.fb_model.specs.History.{Event, called, chose, tested, delivered, Past, LogSegment, calls_of, opened_by, tasks}
-use Rattle.fb_model.specs.History.{task_numbers, terms_of, registered, blocks_of, same_block, registers, delivers, aborts, overwrites}
-use Rattle.fb_model.specs.History.{is_seal_of, is_sealed, is_open_backup, bare_state, content_of, suspended_after, is_suspended, state}
-use Rattle.fb_model.specs.History.{wanted}
-use Rattle.fb_model.specs.Completion.{segment_by, segments, Choice, choices, is_close, is_closed, is_segment_of, is_reported, own_of, Work}
-use Rattle.fb_model.specs.Completion.{work, is_done, is_complete, was_complete}
-use Rattle.fb_model.specs.Segments.{numbered, is_better, unchosen, is_busy, choose_best, choose_once, choose_up_to}
-use Rattle.fb_model.specs.Segments.{choose_in, with_choices}
-use Rattle.fb_model.specs.Images.{bad_sectors, is_scrub, findings, held_at_delivery, packed, is_newly_cleaned, segment_rows, image}
-use Rattle.fb_model.specs.Images.{segment_row, seal_rows, complete_rows, test_rows}
-use Rattle.fb_model.specs.Deliveries.{due}
-use Rattle.fb_model.specs.Steps.{Delivery, Step, decision_in, blocks_by, take_call, calls_due, chosen_past, with_delivery, with_finish}
-use Rattle.fb_model.specs.Steps.{tested_past, past_after, AtEach}
-use Rattle.fb_model.specs.SoundRun.{AreFollowed}
-use Rattle.fb_model.specs.FullRun.{HasBestPlan}
-use Rattle.fb_model.specs.Known.{without_line}
+use Rattle.fb_model.specs.History.{delivers, aborts, overwrites}
+use Rattle.fb_model.specs.History.{is_seal_of, is_sealed, suspended_after, is_suspended}
+use Rattle.fb_model.specs.Completion.{segment_by, is_close, is_segment_of, is_reported, Work}
+use Rattle.fb_model.specs.Completion.{is_done}
 use Rattle.fb_model.proofs.FullRuns.{IsFullStep}
 
 abbrev unlined : Event → Event

@@ -1,14 +1,6 @@
 -- The foreground is that of the plain replay, whatever the background does.
-use Rattle.std.proofs.Common.{◌≡◌, ℕ, List, map, refl, ap, sym, ◌∙◌}
-use Rattle.fb_units.specs.declared.types.Request.{Request}
-use Rattle.fb_service.specs.declared.disk.Disk.{Disk}
-use Rattle.fb_rows.specs.declared.fore.ForeRow.{ForeRow}
-use Rattle.fb_rows.specs.declared.run.Run.{Run}
-use Rattle.std.specs.List.{fold, flat_map}
-use Rattle.fb_model.specs.Foreground.{behind, promoted}
-use Rattle.fb_model.specs.PlainReplay.{Key, plain_replay}
-use Rattle.fb_model.specs.Inputs.{Inputs, served}
-use Rattle.fb_model.specs.Content.{writes_of, fore_row, medium_of, fore_rows}
+use Rattle.fb_model.proofs.Words.{◌≡◌, ℕ, List, map, refl, ap, sym, ◌∙◌, Request, Disk, ForeRow, Run, fold, flat_map, behind, promoted}
+use Rattle.fb_model.proofs.Words.{Key, plain_replay, Inputs, served, writes_of, fore_row, medium_of, fore_rows}
 use Rattle.fb_model.specs.SoundRun.{IsSound}
 use Rattle.fb_model.specs.Laws.{HaveOneForeground}
 use Rattle.fb_model.proofs.ContentsUpTo.{same_found}

@@ -1,28 +1,19 @@
 -- How events change the way a task stands.
-use Rattle.std.proofs.Common.{◌≡◌, ℕ, zero, suc, length, subst, ◌+◌, ◌==◌, List, [], ◌∷◌, ◌++◌, Bool, true, false, inl, inr, filter}
-use Rattle.std.proofs.Common.{append-nil, refl, sym}
-use Rattle.std.specs.List.{AllByRecursion, list_any, slice_index_or}
-use Rattle.std.proofs.Math.Bool.{or-true, or-false, and-true, and-false}
-use Rattle.std.proofs.lemmas.Bool.{cases_Bool}
-use Rattle.std.proofs.lemmas.Bool.Decides.{nat_tests}
-use Rattle.std.proofs.Common.{arith}
-use Rattle.std.proofs.lemmas.List.Elements.{filter-append}
-use Rattle.std.proofs.lemmas.List.Folds.{list_any-append}
+use Rattle.fb_model.proofs.Words.{◌≡◌, ℕ, zero, suc, length, subst, ◌+◌, List, [], ◌∷◌, ◌++◌, Bool, true, false, inl, inr, append-nil}
+use Rattle.fb_model.proofs.Words.{refl, sym, AllByRecursion, list_any, and-true, cases_Bool, nat_tests, arith, filter-append}
+use Rattle.fb_model.proofs.Words.{list_any-append, all_weaker, Request, Open, Want, Promote, Call, DeliveryRow, BackRow, Block, Past}
+use Rattle.fb_model.proofs.Words.{LogSegment, called, chose, tested, delivered, finished, terms_of, tasks, same_block, bare_state}
+use Rattle.fb_model.proofs.Words.{content_of, own_of, is_complete}
+use Rattle.std.proofs.Common.{◌==◌, filter}
+use Rattle.std.specs.List.{slice_index_or}
+use Rattle.std.proofs.Math.Bool.{or-true, or-false, and-false}
 use Rattle.fb_units.proofs.Comparing.{same_number}
 use Rattle.fb_units.proofs.Filtered.{all_kept}
-use Rattle.fb_units.proofs.Lists.{all_weaker}
-use Rattle.fb_units.specs.declared.types.Request.{Request}
-use Rattle.fb_script.specs.declared.call.Action.TheVariants.{Open, Want, Abort, Promote, Suspend, Resume, Close, Segment}
-use Rattle.fb_script.specs.declared.call.Call.{Call}
+use Rattle.fb_script.specs.declared.call.Action.TheVariants.{Abort, Suspend, Resume, Close, Segment}
 use Rattle.fb_script.specs.declared.call.Kind.{Kind}
 use Rattle.fb_script.specs.declared.call.Kind.TheVariants.{Plain}
-use Rattle.fb_rows.specs.declared.back.DeliveryRow.{DeliveryRow}
-use Rattle.fb_rows.specs.declared.back.BackRow.{BackRow}
-use Rattle.fb_wanted.specs.declared.block.Block.{Block}
-use Rattle.fb_model.specs.History.{Past, LogSegment, called, chose, tested, delivered, finished, terms_of, tasks, same_block, bare_state}
-use Rattle.fb_model.specs.History.{content_of}
-use Rattle.fb_model.specs.Completion.{view, own_of, is_unsealed, closed_view, aborted_view, written_view, added_view, wanted_view}
-use Rattle.fb_model.specs.Completion.{chosen_view, delivered_view, tested_view, is_complete}
+use Rattle.fb_model.specs.Completion.{view, is_unsealed, closed_view, aborted_view, written_view, added_view, wanted_view}
+use Rattle.fb_model.specs.Completion.{chosen_view, delivered_view, tested_view}
 
 -- a call that opens no task
 module _ (past : Past) (call : Call) (kept : tasks (called call [] ∷ past) ≡ tasks past) (task : ℕ) where

@@ -1,25 +1,13 @@
 -- Sectors begin at angles of the rotation and take time to pass, and legs lead the head through the passages of a service.
-use Rattle.std.proofs.Common.{◌<◌, sym, subst, arith, ◌≡◌, ℕ, zero, suc, ◌+◌, ◌-◌, ◌≤◌, [], ◌∷◌, true, refl, ap, ◌∙◌, length}
-use Rattle.fb_units.proofs.Tracks.{track_itself}
-use Rattle.fb_units.specs.declared.types.Place.{Place}
-use Rattle.fb_geometry.specs.Shape.{Shape, slots_at}
-use Rattle.fb_geometry.specs.Sound.{IsSound, LiesOn}
-use Rattle.fb_sectormap.proofs.ByCylinder.{has_place}
-use Rattle.fb_service.specs.Passing.{length_of, begin_angle, begin_from, end_from}
+use Rattle.fb_model.proofs.Words.{◌<◌, sym, subst, arith, ◌≡◌, ℕ, zero, suc, ◌+◌, ◌-◌, ◌≤◌, [], ◌∷◌, true, refl, ap, ◌∙◌, length}
+use Rattle.fb_model.proofs.Words.{track_itself, Place, Shape, slots_at, IsSound, LiesOn, has_place, length_of, begin_angle, begin_from}
+use Rattle.fb_model.proofs.Words.{◌&&◌, ◌==◌, nat_tests, Track, same_track, wait_least, place_at, track_at, pos, Disk, passages}
+use Rattle.fb_model.proofs.Words.{passage_from, media_of, finish_of, stay, way, led_to, Request, places}
+use Rattle.fb_service.specs.Passing.{end_from}
 use Rattle.fb_model.proofs.Passages.{slots_short, from_on, LiesOnDisk}
-use Rattle.std.specs.Prelude.{Bool, ◌&&◌, ◌==◌, ◌%◌}
-use Rattle.std.proofs.lemmas.Bool.Decides.{nat_tests}
-use Rattle.fb_units.specs.declared.types.Track.{Track}
-use Rattle.fb_units.specs.Tracks.{same_track}
-use Rattle.fb_units.proofs.Waits.{wait_least}
-use Rattle.fb_sectormap.specs.LookUp.{place_at, track_at}
-use Rattle.fb_seek.specs.Positioning.{pos}
-use Rattle.fb_service.specs.declared.disk.Disk.{Disk}
-use Rattle.fb_service.specs.Service.{passages, passage_from, media_of, finish_of}
-use Rattle.fb_model.specs.Timeline.{stay, pass, way, passing, led_to}
+use Rattle.std.specs.Prelude.{Bool, ◌%◌}
+use Rattle.fb_model.specs.Timeline.{pass, passing}
 use Rattle.fb_model.proofs.Leads.{Leads, lead_on, lead_one, lead_stay, lead_way, no_way}
-use Rattle.fb_units.specs.declared.types.Request.{Request}
-use Rattle.fb_geometry.specs.Places.{places}
 use Rattle.fb_model.proofs.Disks.{begins_within}
 
 -- ---- where legs lead the head through the passages of a service

@@ -1,22 +1,9 @@
 -- What services write: until when none of it has passed, and what of it a sector holds in the end.
-use Rattle.std.proofs.Common.{◌≡◌, ℕ, zero, suc, ◌+◌, ◌<◌, ◌≤◌, List, [], ◌∷◌, ◌++◌, map, Option, None, Some, Bool, true, false, refl, ap}
-use Rattle.std.proofs.Common.{◌∙◌, arith, inl, inr, append-nil}
-use Rattle.std.specs.Prelude.{filter, ◌==◌, if◌then◌else◌}
-use Rattle.std.specs.List.{AllByRecursion, last_or}
-use Rattle.std.proofs.lemmas.Bool.{cases_Bool}
-use Rattle.std.proofs.lemmas.Bool.Decides.{nat_tests}
-use Rattle.std.proofs.lemmas.List.Elements.{filter-append}
-use Rattle.fb_units.proofs.Lists.{all_weaker}
-use Rattle.fb_units.specs.declared.types.Track.{Track}
-use Rattle.fb_sectormap.specs.LookUp.{track_at}
-use Rattle.fb_seek.specs.Positioning.{pos}
-use Rattle.fb_service.specs.declared.disk.Disk.{Disk}
-use Rattle.fb_service.specs.declared.passage.Passage.{Passage}
-use Rattle.fb_service.specs.Service.{passages, passage_from, finish_of, media_of}
-use Rattle.fb_store.specs.declared.content.Content.{Content}
-use Rattle.fb_store.specs.declared.content.Content.TheVariants.{Filled}
-use Rattle.fb_store.specs.Writes.{is_within, unwritten}
-use Rattle.fb_model.specs.Content.{Written, content, content_by}
+use Rattle.fb_model.proofs.Words.{◌≡◌, ℕ, zero, suc, ◌+◌, ◌<◌, ◌≤◌, List, [], ◌∷◌, ◌++◌, map, Option, None, Some, Bool, true, false, refl}
+use Rattle.fb_model.proofs.Words.{ap, ◌∙◌, arith, inl, inr, append-nil, filter, ◌==◌, if◌then◌else◌, AllByRecursion, last_or, cases_Bool}
+use Rattle.fb_model.proofs.Words.{nat_tests, filter-append, all_weaker, Track, track_at, pos, Disk, Passage, passages, passage_from}
+use Rattle.fb_model.proofs.Words.{finish_of, media_of, Content, Filled, unwritten, Written, content, content_by}
+use Rattle.fb_store.specs.Writes.{is_within}
 use Rattle.fb_model.proofs.ContentsUpTo.{is_of_by, none_by}
 use Rattle.fb_model.proofs.Passages.{passed_between, written_by}
 

@@ -1,22 +1,11 @@
 -- What is chosen of a track's wanted blocks is put in one order of delivery, in whatever order they are looked at.
-use Rattle.std.proofs.Common.{◌≡◌, inl, inr, ℕ, suc, ◌+◌, ◌<◌, ◌≤◌, ◌==◌, List, [], ◌∷◌, ◌++◌, Bool, true, ◌&&◌, Some, slice_get}
-use Rattle.std.proofs.Common.{filter, map, length, refl, arith, sym, ap, ◌∙◌, subst, if◌then◌else◌}
-use Rattle.std.proofs.lemmas.Bool.{cases_Bool, and_parts, and_from, eqb-true, eq-eqb}
-use Rattle.std.proofs.lemmas.List.Elements.{filter-append}
-use Rattle.std.proofs.lemmas.List.Sums.{sum_by-cons}
-use Rattle.fb_units.proofs.Filtered.{filter_from, filter_to}
-use Rattle.fb_units.specs.declared.types.Track.{Track}
-use Rattle.fb_units.specs.Tracks.{same_track}
-use Rattle.fb_service.specs.declared.disk.Disk.{Disk}
-use Rattle.fb_wanted.specs.declared.block.Block.{Block}
-use Rattle.fb_wanted.specs.declared.block.Entry.{Entry}
-use Rattle.fb_wanted.specs.Numbering.{AreInOrder, blocks_of}
+use Rattle.fb_plan.proofs.Words.{◌≡◌, inl, inr, ℕ, suc, ◌+◌, ◌<◌, ◌≤◌, ◌==◌, List, [], ◌∷◌, ◌++◌, Bool, true, ◌&&◌, Some, slice_get}
+use Rattle.fb_plan.proofs.Words.{filter, map, length, refl, arith, sym, ap, ◌∙◌, subst, if◌then◌else◌, cases_Bool, and_parts, and_from}
+use Rattle.fb_plan.proofs.Words.{eqb-true, eq-eqb, filter-append, sum_by-cons, filter_from, filter_to, Track, same_track, Disk, Block}
+use Rattle.fb_plan.proofs.Words.{Entry, blocks_of, is_wanted, on_track, wanted_of, Dwell, catches, Catch, in_order, catch_of, caught_of}
+use Rattle.fb_plan.proofs.Words.{caught_among}
+use Rattle.fb_wanted.specs.Numbering.{AreInOrder}
 use Rattle.fb_wanted.specs.Offers.{AreSameBlocks}
-use Rattle.fb_wanted.specs.States.{is_wanted, on_track, wanted_of}
-use Rattle.fb_rows.specs.declared.gap.Dwell.{Dwell}
-use Rattle.fb_model.specs.Plans.{catches}
-use Rattle.fb_rows.specs.declared.gap.Catch.{Catch}
-use Rattle.fb_model.specs.Deliveries.{in_order, catch_of, caught_of, caught_among}
 use Rattle.fb_plan.proofs.Gains.{chosen-sum}
 use Rattle.fb_plan.proofs.Offered.{entry-of}
 use Rattle.fb_plan.proofs.Orders.{on_its_track}

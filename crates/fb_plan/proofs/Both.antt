@@ -1,31 +1,12 @@
 -- The value of a plan by what is offered on its two tracks.
-use Rattle.std.proofs.Common.{◌≡◌, inl, inr, ℕ, ◌+◌, ◌*◌, ◌^◌, ◌<◌, ◌≤◌, List, [], ◌∷◌, Bool, true, false, ◌||◌, nat_le, Some}
-use Rattle.std.proofs.Common.{slice_get, get_or, length, take, suc, refl, arith, sym, ap, ap₂, ◌∙◌, subst}
-use Rattle.std.specs.List.{sum_by}
-use Rattle.std.proofs.lemmas.Bool.{cases_Bool}
-use Rattle.std.proofs.lemmas.Bool.Decides.{nat_tests}
-use Rattle.std.proofs.lemmas.List.Sums.{sum_by-cons, sum_by_more}
-use Rattle.fb_units.proofs.Filtered.{filter_from}
-use Rattle.fb_units.specs.declared.types.Sweep.{Sweep}
-use Rattle.fb_units.specs.declared.types.Track.{Track}
-use Rattle.fb_units.specs.Tracks.{same_track}
-use Rattle.fb_service.specs.declared.disk.Disk.{Disk}
-use Rattle.fb_wanted.specs.declared.block.Block.{Block}
-use Rattle.fb_wanted.specs.declared.block.Entry.{Entry}
-use Rattle.fb_wanted.specs.declared.offer.Offer.{Offer}
-use Rattle.fb_wanted.specs.Offers.{AreOffers}
-use Rattle.fb_wanted.specs.States.{wanted_of}
-use Rattle.fb_rows.specs.declared.gap.Gap.{Gap}
-use Rattle.fb_rows.specs.declared.gap.Plan.{Plan}
-use Rattle.fb_rows.specs.declared.gap.Plan.TheVariants.{Direct, Detour}
-use Rattle.fb_rows.specs.declared.gap.Dwell.{Dwell}
-use Rattle.fb_model.specs.Blocks.{IsBlockOn}
-use Rattle.fb_model.specs.Plans.{block_end, value, early_dwell, late_dwell}
+use Rattle.fb_plan.proofs.Words.{◌≡◌, inl, inr, ℕ, ◌+◌, ◌*◌, ◌^◌, ◌<◌, ◌≤◌, List, [], ◌∷◌, Bool, true, false, ◌||◌, nat_le, Some}
+use Rattle.fb_plan.proofs.Words.{slice_get, get_or, length, take, suc, refl, arith, sym, ap, ◌∙◌, subst, sum_by, cases_Bool, nat_tests}
+use Rattle.fb_plan.proofs.Words.{sum_by-cons, filter_from, Sweep, Track, same_track, Disk, Block, Entry, Offer, AreOffers, wanted_of, Gap}
+use Rattle.fb_plan.proofs.Words.{Plan, Direct, Detour, Dwell, IsBlockOn, block_end, value, early_dwell, late_dwell, Sides, Turning}
+use Rattle.fb_plan.proofs.Words.{AreOnDisk, AreSides, IsTurning, passes_by, added}
+use Rattle.std.proofs.Common.{ap₂}
+use Rattle.std.proofs.lemmas.List.Sums.{sum_by_more}
 use Rattle.fb_plan.specs.declared.dwell_pair.DwellPair.{DwellPair}
-use Rattle.fb_plan.specs.declared.sides.Sides.{Sides}
-use Rattle.fb_plan.specs.declared.turning.Turning.{Turning}
-use Rattle.fb_plan.specs.Ways.{AreOnDisk}
-use Rattle.fb_plan.specs.Turns.{AreSides, IsTurning, passes_by, added}
 use Rattle.fb_plan.proofs.Gains.{adds, gain_by, value-by-one, value-by-two}
 use Rattle.fb_plan.proofs.Offered.{sum-offered}
 use Rattle.fb_plan.proofs.Swept.{passes-as}

@@ -1,13 +1,7 @@
 -- For each leave of a way there is one of the few that are tried which is no later and catches as much.
-use Rattle.std.proofs.Common.{◌≡◌, ℕ, ◌≤◌, List, refl}
-use Rattle.fb_service.specs.declared.disk.Disk.{Disk}
-use Rattle.fb_wanted.specs.declared.block.Block.{Block}
-use Rattle.fb_rows.specs.declared.gap.Gap.{Gap}
-use Rattle.fb_model.specs.Plans.{is_caught, value}
+use Rattle.fb_plan.proofs.Words.{◌≡◌, ℕ, ◌≤◌, List, refl, Disk, Block, Gap, is_caught, value, Way, Source, Over, plan_by, early_track}
+use Rattle.fb_plan.proofs.Words.{arrival}
 use Rattle.fb_model.proofs.Leaves.{StandsFor, covered, enough as enough_leaves}
-use Rattle.fb_plan.specs.declared.way.Way.{Way}
-use Rattle.fb_plan.specs.declared.way.Way.TheVariants.{Source, Over}
-use Rattle.fb_plan.specs.Ways.{plan_by, early_track, arrival}
 
 -- a plan's catches by its way
 caught-by : (disk : Disk) (gap : Gap) (way : Way) (u : ℕ) (block : Block)

@@ -1,22 +1,10 @@
 -- The value of a plan is what the blocks of its two tracks add.
-use Rattle.std.proofs.Common.{◌≡◌, inl, inr, ℕ, ◌+◌, ◌*◌, List, [], ◌∷◌, Bool, true, false, ◌&&◌, ◌||◌}
-use Rattle.std.proofs.Common.{filter, refl, arith, sym, ap, ◌∙◌, if◌then◌else◌, subst}
-use Rattle.std.specs.List.{sum_by}
+use Rattle.fb_plan.proofs.Words.{◌≡◌, inl, inr, ℕ, ◌+◌, ◌*◌, List, [], ◌∷◌, Bool, true, false, ◌&&◌, ◌||◌, filter, refl, arith, sym, ap}
+use Rattle.fb_plan.proofs.Words.{◌∙◌, if◌then◌else◌, subst, sum_by, cases_Bool, nat_tests, sum_by-cons, Track, same_track, Disk, Block}
+use Rattle.fb_plan.proofs.Words.{Entry, is_wanted, on_track, wanted_of, Gap, Plan, Direct, Detour, Dwell, catches, is_caught, value}
+use Rattle.fb_plan.proofs.Words.{early_dwell, late_dwell}
 use Rattle.std.proofs.Math.Bool.{and-false}
-use Rattle.std.proofs.lemmas.Bool.{cases_Bool, true≢false}
-use Rattle.std.proofs.lemmas.Bool.Decides.{nat_tests}
-use Rattle.std.proofs.lemmas.List.Sums.{sum_by-cons}
-use Rattle.fb_units.specs.declared.types.Track.{Track}
-use Rattle.fb_units.specs.Tracks.{same_track}
-use Rattle.fb_service.specs.declared.disk.Disk.{Disk}
-use Rattle.fb_wanted.specs.declared.block.Block.{Block}
-use Rattle.fb_wanted.specs.declared.block.Entry.{Entry}
-use Rattle.fb_wanted.specs.States.{is_wanted, on_track, wanted_of}
-use Rattle.fb_rows.specs.declared.gap.Gap.{Gap}
-use Rattle.fb_rows.specs.declared.gap.Plan.{Plan}
-use Rattle.fb_rows.specs.declared.gap.Plan.TheVariants.{Direct, Detour}
-use Rattle.fb_rows.specs.declared.gap.Dwell.{Dwell}
-use Rattle.fb_model.specs.Plans.{catches, is_caught, value, early_dwell, late_dwell}
+use Rattle.std.proofs.lemmas.Bool.{true≢false}
 use Rattle.fb_plan.specs.Ways.{gain, track_of}
 
 -- what an entry adds, if it's wanted and its block passes the test

@@ -1,22 +1,14 @@
 -- Offers are those of the wanted blocks: each has its block, each block its offer, and sums over both are the same.
-use Rattle.std.proofs.Common.{◌≡◌, ℕ, zero, suc, ◌<◌, ◌==◌, List, [], ◌∷◌, Bool, true, ◌&&◌, Some, slice_get}
-use Rattle.std.proofs.Common.{get_or, filter, length, map, option_map, inl, inr, refl, arith, sym, ap, ◌∙◌, subst, if◌then◌else◌}
-use Rattle.std.specs.List.{sum_by}
-use Rattle.std.proofs.lemmas.Bool.{cases_Bool, and_parts, and_from, eqb-true, eq-eqb}
-use Rattle.std.proofs.lemmas.List.Sums.{sum_by-cons}
-use Rattle.std.proofs.lemmas.Option.{slice_get_within, slice_get-map, slice_get-get_or, same_Some}
-use Rattle.fb_units.proofs.Filtered.{filter_from, filter_to}
-use Rattle.fb_units.specs.declared.types.Sweep.{Sweep}
-use Rattle.fb_service.specs.declared.disk.Disk.{Disk}
-use Rattle.fb_wanted.specs.declared.block.Block.{Block}
-use Rattle.fb_wanted.specs.declared.block.Entry.{Entry}
+use Rattle.fb_plan.proofs.Words.{◌≡◌, ℕ, suc, ◌<◌, ◌==◌, List, [], ◌∷◌, Bool, true, ◌&&◌, Some, slice_get, get_or, filter, length, map}
+use Rattle.fb_plan.proofs.Words.{inl, inr, refl, arith, sym, ap, ◌∙◌, subst, if◌then◌else◌, sum_by, cases_Bool, and_parts, and_from}
+use Rattle.fb_plan.proofs.Words.{eqb-true, eq-eqb, sum_by-cons, slice_get_within, slice_get-get_or, same_Some, filter_from, filter_to}
+use Rattle.fb_plan.proofs.Words.{Sweep, Disk, Block, Entry, Offer, AreOffers, is_wanted, wanted_of, Turning, AreOnDisk, IsInTurn}
+use Rattle.fb_plan.proofs.Words.{IsTurning, added}
+use Rattle.std.proofs.Common.{zero}
+use Rattle.std.proofs.Common.{option_map}
+use Rattle.std.proofs.lemmas.Option.{slice_get-map}
 use Rattle.fb_wanted.specs.declared.block.State.TheVariants.{Wanted}
-use Rattle.fb_wanted.specs.declared.offer.Offer.{Offer}
-use Rattle.fb_wanted.specs.Offers.{AreOffers}
-use Rattle.fb_wanted.specs.States.{is_wanted, wanted_of}
-use Rattle.fb_plan.specs.declared.turning.Turning.{Turning}
-use Rattle.fb_plan.specs.Ways.{AreOnDisk}
-use Rattle.fb_plan.specs.Turns.{IsInTurn, AreInTurn, IsTurning, added}
+use Rattle.fb_plan.specs.Turns.{AreInTurn}
 use Rattle.fb_plan.proofs.Gains.{adds, of-wanted}
 use Rattle.fb_plan.proofs.Swept.{turning-in}
 

@@ -1,22 +1,11 @@
 -- What a dwell catches is caught on its track.
-use Rattle.std.proofs.Common.{◌≡◌, inl, inr, ℕ, ◌+◌, List, [], ◌∷◌, ◌++◌, true, false, Some, slice_get, filter, map, take}
-use Rattle.std.proofs.Common.{cond, nat_le, refl, sym, ap, ◌∙◌}
-use Rattle.std.proofs.lemmas.Bool.{cases_Bool}
-use Rattle.std.proofs.lemmas.List.{append-nil, map-append}
+use Rattle.fb_plan.proofs.Words.{◌≡◌, inl, inr, ℕ, ◌+◌, List, [], ◌∷◌, ◌++◌, true, false, Some, slice_get, filter, map, take, cond, nat_le}
+use Rattle.fb_plan.proofs.Words.{refl, sym, ap, ◌∙◌, cases_Bool, append-nil, slice_get_within, Sweep, same_track, Disk, Block, Entry}
+use Rattle.fb_plan.proofs.Words.{is_wanted, on_track, wanted_of, Dwell, IsBlockOn, catches, block_end, Turning, catch_of, caught_among}
+use Rattle.fb_plan.proofs.Words.{passes_by, IsTurning}
+use Rattle.std.proofs.lemmas.List.{map-append}
 use Rattle.std.proofs.lemmas.List.Elements.{filter_more}
-use Rattle.std.proofs.lemmas.Option.{slice_get_within, get_or_from_slice_get}
-use Rattle.fb_units.specs.declared.types.Sweep.{Sweep}
-use Rattle.fb_units.specs.Tracks.{same_track}
-use Rattle.fb_service.specs.declared.disk.Disk.{Disk}
-use Rattle.fb_wanted.specs.declared.block.Block.{Block}
-use Rattle.fb_wanted.specs.declared.block.Entry.{Entry}
-use Rattle.fb_wanted.specs.States.{is_wanted, on_track, wanted_of}
-use Rattle.fb_rows.specs.declared.gap.Dwell.{Dwell}
-use Rattle.fb_model.specs.Blocks.{IsBlockOn}
-use Rattle.fb_model.specs.Plans.{catches, block_end}
-use Rattle.fb_plan.specs.declared.turning.Turning.{Turning}
-use Rattle.fb_model.specs.Deliveries.{catch_of, caught_among}
-use Rattle.fb_plan.specs.Turns.{passes_by, IsTurning}
+use Rattle.std.proofs.lemmas.Option.{get_or_from_slice_get}
 use Rattle.fb_plan.proofs.Swept.{passes-as}
 
 -- a dwell catches a block of its track whose sweep passes by its end

@@ -1,33 +1,17 @@
 -- What the best so far has passed.
-use Rattle.std.proofs.Common.{◌≡◌, inl, inr, ℕ, ◌+◌, ◌<◌, ◌≤◌, List, true}
-use Rattle.std.proofs.Common.{Some, slice_get, get_or, length, arith, sym, ap, ◌∙◌, subst}
+use Rattle.fb_plan.proofs.Words.{◌≡◌, inl, inr, ℕ, ◌+◌, ◌<◌, ◌≤◌, List, true, Some, slice_get, get_or, length, arith, sym, ap, ◌∙◌, subst}
+use Rattle.fb_plan.proofs.Words.{slice_get_within, slice_get-get_or, same_Some, filter_to, Track, same_track, cylinders_of, Disk, Block}
+use Rattle.fb_plan.proofs.Words.{Entry, Offer, AreOffers, is_wanted, on_track, wanted_of, Dwell, Gap, Plan, Direct, Detour, block_end}
+use Rattle.fb_plan.proofs.Words.{value, early_dwell, IsPlan, Way, Source, Over, Turning, plan_by, early_track, arrival, AreOnDisk}
+use Rattle.fb_plan.proofs.Words.{IsNoWorse, Sides, AreSides, IsTurning, end_of, no_worse-trans}
 use Rattle.std.proofs.lemmas.Bool.{cases_lt}
-use Rattle.std.proofs.lemmas.Option.{slice_get_within, slice_get-get_or, same_Some}
-use Rattle.fb_units.proofs.Filtered.{filter_to}
-use Rattle.fb_units.specs.declared.types.Track.{Track}
-use Rattle.fb_units.specs.Tracks.{same_track}
-use Rattle.fb_geometry.specs.Shape.{cylinders_of}
-use Rattle.fb_service.specs.declared.disk.Disk.{Disk}
-use Rattle.fb_wanted.specs.declared.block.Block.{Block}
-use Rattle.fb_wanted.specs.declared.block.Entry.{Entry}
-use Rattle.fb_wanted.specs.declared.offer.Offer.{Offer}
-use Rattle.fb_wanted.specs.Offers.{AreOffers}
-use Rattle.fb_wanted.specs.States.{is_wanted, on_track, wanted_of}
-use Rattle.fb_rows.specs.declared.gap.Dwell.{Dwell}
-use Rattle.fb_rows.specs.declared.gap.Gap.{Gap}
-use Rattle.fb_rows.specs.declared.gap.Plan.{Plan}
-use Rattle.fb_rows.specs.declared.gap.Plan.TheVariants.{Direct, Detour}
-use Rattle.fb_model.specs.Plans.{block_end, value, early_dwell, IsPlan, IsDetour}
-use Rattle.fb_plan.specs.declared.way.Way.{Way}
-use Rattle.fb_plan.specs.declared.way.Way.TheVariants.{Source, Over}
-use Rattle.fb_plan.specs.declared.turning.Turning.{Turning}
-use Rattle.fb_plan.specs.Ways.{plan_by, early_track, arrival, move_on, AreOnDisk, IsNoWorse}
-use Rattle.fb_plan.specs.declared.sides.Sides.{Sides}
-use Rattle.fb_plan.specs.Turns.{AreSides, IsTurning, end_of, longest_stay}
+use Rattle.fb_model.specs.Plans.{IsDetour}
+use Rattle.fb_plan.specs.Ways.{move_on}
+use Rattle.fb_plan.specs.Turns.{longest_stay}
 use Rattle.fb_plan.proofs.Enough.{enough}
 use Rattle.fb_plan.proofs.Offered.{entry-of, offer-of, wanted-at}
 use Rattle.fb_plan.proofs.Swept.{turning-end}
-use Rattle.fb_model.proofs.Ties.{no_worse-self, no_worse-trans}
+use Rattle.fb_model.proofs.Ties.{no_worse-self}
 use Rattle.fb_plan.proofs.Ties.{later-leave}
 
 -- a wanted block of the track is among its entries

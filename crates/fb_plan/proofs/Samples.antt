@@ -1,12 +1,9 @@
 -- One more block of the first task.
-use Rattle.std.proofs.Common.{◌≡◌, ℕ, ◌+◌, ◌==◌, List, [], ◌∷◌, ◌++◌, inl, inr, refl, sym, subst, arith, length, length-append}
-use Rattle.std.proofs.lemmas.Bool.{cases_Bool}
+use Rattle.fb_plan.proofs.Words.{◌≡◌, ℕ, ◌+◌, ◌==◌, List, [], ◌∷◌, ◌++◌, inl, inr, refl, sym, subst, arith, length, cases_Bool, Disk}
+use Rattle.fb_plan.proofs.Words.{Entry, blocks_of, IsBlockOn, AreOnDisk}
+use Rattle.std.proofs.Common.{length-append}
 use Rattle.fb_units.proofs.Changed.{old_or_last}
-use Rattle.fb_service.specs.declared.disk.Disk.{Disk}
-use Rattle.fb_wanted.specs.declared.block.Entry.{Entry}
-use Rattle.fb_wanted.specs.Numbering.{blocks_of, registered_count}
-use Rattle.fb_model.specs.Blocks.{IsBlockOn}
-use Rattle.fb_plan.specs.Ways.{AreOnDisk}
+use Rattle.fb_wanted.specs.Numbering.{registered_count}
 
 on-disk-more : (disk : Disk) (es : List Entry) (e : Entry) → AreOnDisk disk es → IsBlockOn disk.map e.block → AreOnDisk disk (es ++ e ∷ [])
 on-disk-more disk es e h fits i x at = elim (old_or_last es e x i at) [

@@ -1,5 +1,7 @@
 -- A block passes as its sweep does.
-use Rattle.std.proofs.Common.{◌≡◌, ℕ, ◌+◌, ◌-◌, ◌*◌, ◌%◌, ◌<◌, ◌≤◌, refl, ap, sym, ◌∙◌, subst, length, nat_le, arith}
+use Rattle.fb_plan.proofs.Words.{◌≡◌, ℕ, ◌+◌, ◌*◌, ◌<◌, ◌≤◌, refl, ap, sym, ◌∙◌, subst, length, nat_le, arith, Shape, Disk, Block, Dwell}
+use Rattle.fb_plan.proofs.Words.{IsBlockOn, block_begin, block_end, Turning, end_of, passes_by, IsInTurn, IsTurning}
+use Rattle.std.proofs.Common.{◌-◌, ◌%◌}
 use Rattle.std.proofs.Math.Nat.{mod-add-mod, mod-lt}
 use Rattle.std.proofs.lemmas.Nat.{div_below, mul-le}
 use Rattle.fb_units.specs.declared.types.Place.{Place}
@@ -7,19 +9,13 @@ use Rattle.fb_units.specs.Wait.{wait}
 use Rattle.fb_units.proofs.Waits.{wait_least, wait-rest}
 use Rattle.fb_geometry.specs.Angles.{slot_begin}
 use Rattle.fb_geometry.specs.Places.{places}
-use Rattle.fb_geometry.specs.Shape.{Shape, slots_at}
+use Rattle.fb_geometry.specs.Shape.{slots_at}
 use Rattle.fb_geometry.specs.Sound.{IsSound}
 use Rattle.fb_sectormap.specs.LookUp.{place_at}
 use Rattle.fb_sectormap.specs.Sweeps.{begin_angle, end_angle, sweep_of}
 use Rattle.fb_sectormap.proofs.ByCylinder.{has_place}
-use Rattle.fb_service.specs.declared.disk.Disk.{Disk}
 use Rattle.fb_service.specs.Passing.{begin_from}
-use Rattle.fb_wanted.specs.declared.block.Block.{Block}
-use Rattle.fb_rows.specs.declared.gap.Dwell.{Dwell}
-use Rattle.fb_model.specs.Blocks.{IsBlockOn}
-use Rattle.fb_model.specs.Plans.{block_begin, block_end}
-use Rattle.fb_plan.specs.declared.turning.Turning.{Turning}
-use Rattle.fb_plan.specs.Turns.{begin_of, end_of, passes_by, IsInTurn, IsTurning}
+use Rattle.fb_plan.specs.Turns.{begin_of}
 
 -- the platter stands at the angle after the wait for it
 turned-on : (r angle t : ℕ) → 0 < r → (t + wait r angle t) % r ≡ angle % r

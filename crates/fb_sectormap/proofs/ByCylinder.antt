@@ -1,18 +1,10 @@
 -- Sectors are numbered cylinder by cylinder.
-use Rattle.std.proofs.Common.{◌≡◌, ℕ, ◌+◌, ◌-◌, ◌*◌, ◌<◌, ◌≤◌, ◌^◌, length, ap, sym, ◌∙◌, arith, inl, inr}
-use Rattle.std.proofs.Common.{Some}
-use Rattle.std.specs.Prelude.{slice_get}
-use Rattle.std.specs.List.{flat_map, range_with_len}
-use Rattle.std.proofs.lemmas.Bool.{cases_lt}
-use Rattle.std.proofs.lemmas.Option.{get_or_from_slice_get, slice_get_within}
-use Rattle.fb_units.proofs.Lists.{element_at}
-use Rattle.fb_units.specs.declared.types.Place.{Place}
-use Rattle.fb_geometry.specs.declared.zone.Zone.{Zone}
-use Rattle.fb_geometry.specs.Shape.{Shape, cylinders_of}
-use Rattle.fb_geometry.specs.Places.{places, data_list, data_list_at}
-use Rattle.fb_geometry.specs.Sound.{IsSound, IsCylinderOf, LiesOn, cylinder_size}
-use Rattle.fb_sectormap.specs.LookUp.{IsAt, place_at, track_at}
-use Rattle.fb_sectormap.specs.Cylinders.{IsFirstOf, CylindersRise, IsSectorOf, sectors_before}
+use Rattle.fb_sectormap.proofs.Words.{◌≡◌, ℕ, ◌+◌, ◌-◌, ◌*◌, ◌<◌, ◌≤◌, ◌^◌, length, ap, sym, ◌∙◌, arith, inl, inr, Some, slice_get}
+use Rattle.fb_sectormap.proofs.Words.{flat_map, range_with_len, cases_lt, get_or_from_slice_get, slice_get_within, element_at, Place, Zone}
+use Rattle.fb_sectormap.proofs.Words.{Shape, cylinders_of, places, data_list, data_list_at, IsSound, cylinder_size, IsAt, place_at}
+use Rattle.fb_sectormap.proofs.Words.{track_at, IsFirstOf, IsSectorOf, sectors_before}
+use Rattle.fb_geometry.specs.Sound.{IsCylinderOf, LiesOn}
+use Rattle.fb_sectormap.specs.Cylinders.{CylindersRise}
 use Rattle.fb_sectormap.proofs.Parts.{length-most, length-same, before-upto, before-more, before-rises, in_part, some_part, IsIn}
 use Rattle.fb_sectormap.proofs.Zones.{AreFollowing, following, list_in_zone, some_zone, by_cylinder, size_most, upto_end}
 

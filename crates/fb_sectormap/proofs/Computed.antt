@@ -1,16 +1,9 @@
 -- Sectors of small disks, computed.
-use Rattle.std.proofs.Common.{◌≡◌, ℕ, zero, suc, List, [], ◌∷◌, true, false, refl, ap, sym, ◌∙◌, Some}
-use Rattle.std.specs.Prelude.{slice_get, ◌==◌}
+use Rattle.fb_sectormap.proofs.Words.{◌≡◌, ℕ, zero, suc, List, [], ◌∷◌, true, false, refl, ap, sym, ◌∙◌, Some, slice_get, ◌==◌, and_from}
+use Rattle.fb_sectormap.proofs.Words.{eq-eqb, none-some, same_Some, Place, same_track, places, place_at, sweep_of, cutting}
 use Rattle.std.specs.List.{list_any}
-use Rattle.std.proofs.lemmas.Bool.{true≢false, or_parts, and_from, eq-eqb}
-use Rattle.std.proofs.lemmas.Option.{none-some, same_Some}
-use Rattle.fb_units.specs.declared.types.Place.{Place}
-use Rattle.fb_units.specs.Tracks.{same_track}
+use Rattle.std.proofs.lemmas.Bool.{true≢false, or_parts}
 use Rattle.fb_geometry.specs.Shape.{same_place}
-use Rattle.fb_geometry.specs.Places.{places}
-use Rattle.fb_sectormap.specs.LookUp.{place_at}
-use Rattle.fb_sectormap.specs.Sweeps.{sweep_of}
-use Rattle.fb_sectormap.specs.Cutting.{cutting}
 use Rattle.fb_sectormap.specs.Worked.{slipping, place, SlipsOnTrack, HoldNothing, SlipsOnCylinder, CutBehindMoved}
 
 pub slips_on_track : SlipsOnTrack

@@ -1,13 +1,12 @@
 -- The first block of a cutting.
-use Rattle.std.proofs.Common.{◌≡◌, ℕ, zero, suc, ◌+◌, ◌-◌, ◌%◌, ◌<◌, ◌≤◌, List, [], ◌∷◌, true, false, not, refl, ap, sym, ◌∙◌, arith, ◌⊎◌}
-use Rattle.std.proofs.Common.{inl, inr}
-use Rattle.std.specs.Prelude.{◌==◌}
-use Rattle.std.proofs.lemmas.Bool.{or_from, or_left, or_right, eq-eqb, ne_eqb, cases_lt}
-use Rattle.std.proofs.Math.Nat.{mod-add-mod, mod-eq_of_lt, mod-lt, mod_self}
-use Rattle.fb_geometry.specs.Shape.{Shape}
+use Rattle.fb_sectormap.proofs.Words.{◌≡◌, ℕ, zero, suc, ◌+◌, ◌-◌, ◌%◌, ◌<◌, ◌≤◌, List, [], ◌∷◌, true, false, refl, ap, sym, ◌∙◌, arith}
+use Rattle.fb_sectormap.proofs.Words.{inl, inr, ◌==◌, eq-eqb, cases_lt, mod-add-mod, mod-eq_of_lt, mod-lt, Shape, place_at, cutting}
+use Rattle.fb_sectormap.proofs.Words.{is_later}
+use Rattle.std.proofs.Common.{not, ◌⊎◌}
+use Rattle.std.proofs.lemmas.Bool.{or_from, or_left, or_right, ne_eqb}
+use Rattle.std.proofs.Math.Nat.{mod_self}
 use Rattle.fb_sectormap.specs.declared.cut.Cut.{Cut}
-use Rattle.fb_sectormap.specs.LookUp.{place_at}
-use Rattle.fb_sectormap.specs.Cutting.{IsOneTurn, cut_of, cutting, with_sector, is_cut_before, is_later}
+use Rattle.fb_sectormap.specs.Cutting.{IsOneTurn, cut_of, with_sector, is_cut_before}
 
 -- a sector whose block ends with it is a block of its own
 alone : (disk : Shape) (block lbn : ℕ) (cuts : List Cut) → (cuts ≡ []) ⊎ (is_cut_before disk block (lbn + 1) ≡ true)

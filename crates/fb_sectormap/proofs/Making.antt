@@ -1,14 +1,9 @@
 -- The starts of zones, one after another.
-use Rattle.std.proofs.Common.{◌≡◌, ℕ, suc, ◌+◌, ◌-◌, ◌*◌, ◌≤◌, ◌^◌, List, [], ◌∷◌, ◌++◌, length, map, take, ap, sym, ◌∙◌, arith, Some}
-use Rattle.std.specs.Prelude.{slice_get}
+use Rattle.fb_sectormap.proofs.Words.{◌≡◌, ℕ, suc, ◌+◌, ◌-◌, ◌*◌, ◌≤◌, ◌^◌, List, [], ◌∷◌, ◌++◌, length, map, take, ap, sym, ◌∙◌, arith}
+use Rattle.fb_sectormap.proofs.Words.{Some, slice_get, Zone, Shape, data_list_at, IsSound, cylinder_size, ZoneStart, IsMapped}
+use Rattle.fb_sectormap.proofs.Words.{sectors_before, start_of}
 use Rattle.std.proofs.lemmas.List.{map-append, take_all}
 use Rattle.fb_units.proofs.Lists.{take_at}
-use Rattle.fb_geometry.specs.declared.zone.Zone.{Zone}
-use Rattle.fb_geometry.specs.Shape.{Shape}
-use Rattle.fb_geometry.specs.Places.{data_list_at}
-use Rattle.fb_geometry.specs.Sound.{IsSound, cylinder_size}
-use Rattle.fb_sectormap.specs.declared.numbering.ZoneStart.{ZoneStart}
-use Rattle.fb_sectormap.specs.Cylinders.{IsMapped, sectors_before, start_of}
 use Rattle.fb_sectormap.proofs.Zones.{border, first_is, next_border, last_border}
 use Rattle.fb_sectormap.proofs.ByCylinder.{follow, before-in_zone, before-few, size-by_zone, upto_last, count-is}
 

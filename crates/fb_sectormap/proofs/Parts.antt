@@ -1,10 +1,8 @@
 -- A list that is made of parts, one for each number below a bound.
-use Rattle.std.proofs.Common.{◌≡◌, ℕ, zero, suc, ◌+◌, ◌-◌, ◌*◌, ◌<◌, ◌≤◌, List, [], ◌++◌, length, refl, ap, sym, ◌∙◌, arith, inl, inr}
-use Rattle.std.specs.Prelude.{slice_get}
-use Rattle.std.specs.List.{flat_map, range_with_len}
+use Rattle.fb_sectormap.proofs.Words.{◌≡◌, ℕ, zero, suc, ◌+◌, ◌-◌, ◌*◌, ◌<◌, ◌≤◌, List, [], ◌++◌, length, refl, ap, sym, ◌∙◌, arith, inl}
+use Rattle.fb_sectormap.proofs.Words.{inr, slice_get, flat_map, range_with_len, cases_lt}
 use Rattle.std.proofs.lemmas.List.{length-append}
 use Rattle.std.proofs.lemmas.List.Concat.{flat_map-append}
-use Rattle.std.proofs.lemmas.Bool.{cases_lt}
 use Rattle.fb_units.proofs.Alike.{flat_same}
 use Rattle.fb_units.proofs.Lists.{all_range, get_left, get_right}
 use Rattle.fb_units.proofs.Parts.{range-append}

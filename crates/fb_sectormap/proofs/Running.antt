@@ -1,14 +1,8 @@
 -- The sectors of a cylinder and their places.
-use Rattle.std.proofs.Common.{◌≡◌, ℕ, ◌+◌, ◌-◌, ◌*◌, ◌^◌, ◌<◌, ◌≤◌, length, ap, sym, ◌∙◌, arith, Some, subst}
-use Rattle.std.specs.Prelude.{slice_get}
-use Rattle.std.proofs.lemmas.Option.{slice_get_within}
-use Rattle.fb_units.proofs.Lists.{element_at}
-use Rattle.fb_units.specs.declared.types.Place.{Place}
-use Rattle.fb_geometry.specs.Shape.{Shape, slots_at, cylinders_of, IsTrackOf}
-use Rattle.fb_geometry.specs.Places.{places, data_list_at}
-use Rattle.fb_geometry.specs.Sound.{IsSound}
-use Rattle.fb_sectormap.specs.LookUp.{IsAt, place_at, track_at}
-use Rattle.fb_sectormap.specs.Cylinders.{IsSectorOf, sectors_before}
+use Rattle.fb_sectormap.proofs.Words.{◌≡◌, ℕ, ◌+◌, ◌-◌, ◌*◌, ◌^◌, ◌<◌, ◌≤◌, length, ap, sym, ◌∙◌, arith, Some, subst, slice_get}
+use Rattle.fb_sectormap.proofs.Words.{slice_get_within, element_at, Place, Shape, slots_at, cylinders_of, places, data_list_at, IsSound}
+use Rattle.fb_sectormap.proofs.Words.{IsAt, place_at, track_at, IsSectorOf, sectors_before}
+use Rattle.fb_geometry.specs.Shape.{IsTrackOf}
 use Rattle.fb_sectormap.proofs.ByCylinder.{placed, place_is, own-at, size-few, count_few}
 
 -- what is known of the place of a sector

@@ -1,22 +1,20 @@
 -- Searches among the starts of zones.
 use denote.Ref.{Bor}
 use denote.Param.Members.{Mut}
-use Rattle.std.proofs.Common.{◌≡◌, ℕ, zero, suc, ◌+◌, ◌-◌, ◌*◌, ◌/◌, ◌<◌, ◌≤◌, List, length, map, get_or, Bool, true, false, refl, ap, sym}
-use Rattle.std.proofs.Common.{◌∙◌, subst, arith, inl, inr, Some, option_map}
-use Rattle.std.specs.Prelude.{slice_get, nat_le}
+use Rattle.fb_sectormap.proofs.Words.{◌≡◌, ℕ, zero, suc, ◌+◌, ◌-◌, ◌*◌, ◌<◌, ◌≤◌, List, length, map, true, false, refl, ap, sym, ◌∙◌}
+use Rattle.fb_sectormap.proofs.Words.{subst, arith, inl, inr, Some, slice_get, nat_le, cases_lt, get_or_from_slice_get, Zone, Shape}
+use Rattle.fb_sectormap.proofs.Words.{cylinders_of, places, IsSound, cylinder_size, ZoneStart, IsFirstOf, IsMapped, sectors_before}
+use Rattle.fb_sectormap.proofs.Words.{start_of}
+use Rattle.std.proofs.Common.{◌/◌, get_or, Bool}
+use Rattle.std.proofs.Common.{option_map}
 use Rattle.std.specs.Fn.{ComputesKey, Called}
 use Rattle.std.specs.List.Sorted.{IsPartitionPoint, IsPartitionedBy, IsNonDecreasingBy}
-use Rattle.std.proofs.lemmas.Bool.{cases_lt, leb-true, leb-false}
+use Rattle.std.proofs.lemmas.Bool.{leb-true, leb-false}
 use Rattle.std.proofs.lemmas.List.Sorted.{IsPartitionPoint-from_clause, IsPartitionedBy-leb}
 use Rattle.std.proofs.lemmas.Nat.{div_below}
 use Rattle.std.proofs.lemmas.List.{length-map}
-use Rattle.std.proofs.lemmas.Option.{get_or_from_slice_get, slice_get-map}
-use Rattle.fb_geometry.specs.declared.zone.Zone.{Zone}
-use Rattle.fb_geometry.specs.Shape.{Shape, cylinders_of}
-use Rattle.fb_geometry.specs.Places.{places}
-use Rattle.fb_geometry.specs.Sound.{IsSound, cylinder_size}
-use Rattle.fb_sectormap.specs.declared.numbering.ZoneStart.{ZoneStart}
-use Rattle.fb_sectormap.specs.Cylinders.{IsFirstOf, IsMapped, TellsSector, TellsFirst, sectors_before, start_of}
+use Rattle.std.proofs.lemmas.Option.{slice_get-map}
+use Rattle.fb_sectormap.specs.Cylinders.{TellsSector, TellsFirst}
 use Rattle.fb_sectormap.proofs.Zones.{border, border-rises, first_is, next_border, last_border, zone_get}
 use Rattle.fb_sectormap.proofs.ByCylinder.{follow, before-rise, before-in_zone, before-few, size-by_zone, count-is, first-is, upto_last}
 

@@ -1,14 +1,7 @@
 -- Stretches of a cylinder, by the numbers of their sectors.
-use Rattle.std.proofs.Common.{◌≡◌, ℕ, ◌+◌, ◌-◌, ◌%◌, ◌<◌, ◌≤◌, length, ap, sym, ◌∙◌, arith, Some}
-use Rattle.std.specs.Prelude.{slice_get}
-use Rattle.std.proofs.lemmas.Option.{slice_get_within}
+use Rattle.fb_sectormap.proofs.Words.{◌≡◌, ℕ, ◌+◌, ◌-◌, ◌%◌, ◌<◌, ◌≤◌, length, ap, sym, ◌∙◌, arith, Some, slice_get, slice_get_within}
+use Rattle.fb_sectormap.proofs.Words.{Shape, slots_at, places, data_list_at, IsSound, IsStretch, IsAt, place_at, neighbour, IsSectorOf}
 use Rattle.fb_geometry.specs.declared.stretch.Stretch.{Stretch}
-use Rattle.fb_geometry.specs.Shape.{Shape, slots_at}
-use Rattle.fb_geometry.specs.Places.{places, data_list_at}
-use Rattle.fb_geometry.specs.Sound.{IsSound}
-use Rattle.fb_geometry.specs.Stretches.{IsStretch}
-use Rattle.fb_sectormap.specs.LookUp.{IsAt, place_at, neighbour}
-use Rattle.fb_sectormap.specs.Cylinders.{IsSectorOf}
 use Rattle.fb_sectormap.proofs.ByCylinder.{at_sector, own-at, place_is}
 
 module _ (disk : Shape) (sound : IsSound disk) (cylinder j lbn : ℕ) (stretch : Stretch) (is : IsSectorOf disk cylinder j lbn)

@@ -1,16 +1,11 @@
 -- The sectors of a stretch come by one after another in one turn.
-use Rattle.std.proofs.Common.{◌≡◌, ℕ, ◌+◌, ◌-◌, ◌%◌, ◌<◌, ◌≤◌, List, [], ◌∷◌, true, ap, sym, ◌∙◌, arith, inl, inr}
-use Rattle.std.specs.Prelude.{nat_le, nat_lt}
-use Rattle.std.proofs.lemmas.Bool.{and_from, lt-ltb, cases_lt, cases_Bool}
-use Rattle.std.proofs.Math.Nat.{mod-add-mod, mod-eq_of_lt, mod-lt}
+use Rattle.fb_sectormap.proofs.Words.{◌≡◌, ℕ, ◌+◌, ◌-◌, ◌%◌, ◌<◌, ◌≤◌, List, [], ◌∷◌, true, ap, sym, ◌∙◌, arith, inl, inr, nat_le}
+use Rattle.fb_sectormap.proofs.Words.{and_from, cases_lt, cases_Bool, mod-add-mod, mod-eq_of_lt, mod-lt, Place, Track, same_track, Zone}
+use Rattle.fb_sectormap.proofs.Words.{Shape, slots_at, turn_position, place_at, neighbour, is_later}
+use Rattle.std.specs.Prelude.{nat_lt}
+use Rattle.std.proofs.lemmas.Bool.{lt-ltb}
 use Rattle.fb_units.proofs.Tracks.{track_itself}
-use Rattle.fb_units.specs.declared.types.Place.{Place}
-use Rattle.fb_units.specs.declared.types.Track.{Track}
-use Rattle.fb_units.specs.Tracks.{same_track}
-use Rattle.fb_geometry.specs.declared.zone.Zone.{Zone}
-use Rattle.fb_geometry.specs.Shape.{Shape, slots_at, offset_at, turn_position}
-use Rattle.fb_sectormap.specs.LookUp.{place_at, neighbour}
-use Rattle.fb_sectormap.specs.Cutting.{is_later}
+use Rattle.fb_geometry.specs.Shape.{offset_at}
 
 -- a track's offset is one of its slots
 pub offset-below : (zones : List Zone) (heads : ℕ) (track : Track) → 0 < slots_at zones track.cylinder

@@ -1,16 +1,13 @@
 -- Zones that follow one another.
-use Rattle.std.proofs.Common.{◌≡◌, ℕ, zero, suc, ◌+◌, ◌-◌, ◌<◌, ◌≤◌, List, [], ◌∷◌, ◌++◌, length, refl, ap, sym, ◌∙◌, arith, inl, inr, Some}
+use Rattle.fb_sectormap.proofs.Words.{◌≡◌, ℕ, zero, suc, ◌+◌, ◌-◌, ◌<◌, ◌≤◌, List, [], ◌∷◌, ◌++◌, length, refl, ap, sym, ◌∙◌, arith, inl}
+use Rattle.fb_sectormap.proofs.Words.{inr, Some, slice_get, ◌==◌, flat_map, range_with_len, cases_Bool, cases_lt, none-some, same_Some}
+use Rattle.fb_sectormap.proofs.Words.{Zone, Shape, cylinders_of, data_list}
 use Rattle.std.proofs.Common.{None}
-use Rattle.std.specs.Prelude.{slice_get, ◌==◌}
-use Rattle.std.specs.List.{flat_map, range_with_len}
-use Rattle.std.proofs.lemmas.Bool.{cases_Bool, cases_lt, eqb-true, le-leb, lt-leb}
-use Rattle.std.proofs.lemmas.Option.{none-some, same_Some}
+use Rattle.std.proofs.lemmas.Bool.{eqb-true, le-leb, lt-leb}
 use Rattle.std.proofs.lemmas.Nat.{mul-le}
 use Rattle.fb_geometry.specs.declared.layout.Layout.{Layout}
 use Rattle.fb_geometry.specs.declared.layout.Layout.TheVariants.{PerTrack, PerCylinder}
-use Rattle.fb_geometry.specs.declared.zone.Zone.{Zone}
-use Rattle.fb_geometry.specs.Shape.{Shape, cylinders_of}
-use Rattle.fb_geometry.specs.Places.{data_list, list_among, zone_places}
+use Rattle.fb_geometry.specs.Places.{list_among, zone_places}
 use Rattle.fb_geometry.specs.Faults.{first_apart}
 use Rattle.fb_geometry.specs.Sound.{cylinder_size_by}
 use Rattle.fb_sectormap.proofs.Parts.{parts-split, same-parts}

@@ -1,11 +1,8 @@
 -- The time until a slot begins to pass.
-use Rattle.std.proofs.Common.{◌≡◌, ℕ, ◌+◌, ◌-◌, ◌%◌, ◌<◌, ◌≤◌, ap, ◌∙◌, arith}
+use Rattle.fb_service.proofs.Words.{◌≡◌, ℕ, ◌+◌, ◌-◌, ◌%◌, ◌<◌, ◌≤◌, ap, ◌∙◌, arith, wait, Place, wait_least, least_unique, least_of}
+use Rattle.fb_service.proofs.Words.{Shape, begin_from, begin_angle}
 use Rattle.std.proofs.Math.Nat.{mod-add-mod}
-use Rattle.fb_units.specs.Wait.{wait}
-use Rattle.fb_units.specs.declared.types.Place.{Place}
-use Rattle.fb_units.proofs.Waits.{wait_least, least_unique, least_of, reaches_ahead, reaches_over}
-use Rattle.fb_geometry.specs.Shape.{Shape}
-use Rattle.fb_service.specs.Passing.{begin_from, begin_angle}
+use Rattle.fb_units.proofs.Waits.{reaches_ahead, reaches_over}
 
 -- a slot begins to pass after the way and the wait at the end of the way
 pub passes_in : (shape : Shape) (place : Place) (instant way waited : ℕ)

@@ -1,17 +1,9 @@
 -- An extent that goes on where the one before it ends.
-use Rattle.std.proofs.Common.{◌≡◌, ℕ, zero, suc, ◌+◌, ◌-◌, ◌<◌, ◌≤◌, List, [], ◌∷◌, ◌++◌, map, refl, ap, sym, ◌∙◌, arith, inl, inr}
-use Rattle.std.proofs.Common.{subst}
-use Rattle.std.specs.List.{range_with_len}
-use Rattle.std.proofs.lemmas.Bool.{cases_lt}
+use Rattle.fb_service.proofs.Words.{◌≡◌, ℕ, zero, suc, ◌+◌, ◌-◌, ◌<◌, ◌≤◌, List, [], ◌∷◌, ◌++◌, map, refl, ap, sym, ◌∙◌, arith, inl, inr}
+use Rattle.fb_service.proofs.Words.{subst, range_with_len, cases_lt, Shape, place_at, Passage, Extent, begin_from, begin_angle, length_of}
+use Rattle.fb_service.proofs.Words.{ArePassing, passage_from, passages_of, FollowOn, IsUnbroken}
 use Rattle.std.proofs.lemmas.List.{map-append}
 use Rattle.fb_units.proofs.Parts.{range-append}
-use Rattle.fb_geometry.specs.Shape.{Shape}
-use Rattle.fb_sectormap.specs.LookUp.{place_at}
-use Rattle.fb_service.specs.declared.passage.Passage.{Passage}
-use Rattle.fb_service.specs.declared.passage.Extent.{Extent}
-use Rattle.fb_service.specs.Passing.{begin_from, begin_angle, length_of, ArePassing}
-use Rattle.fb_service.specs.Service.{passage_from}
-use Rattle.fb_service.specs.Extents.{passages_of, FollowOn, IsUnbroken}
 use Rattle.fb_service.proofs.Passes.{same_passage}
 use Rattle.fb_service.proofs.Serving.{from_begin}
 

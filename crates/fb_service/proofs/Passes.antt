@@ -1,12 +1,6 @@
 -- Instants at which slots begin to pass.
-use Rattle.std.proofs.Common.{◌≡◌, ℕ, ◌+◌, ◌-◌, ◌<◌, ◌≤◌, ◌%◌, ap, ◌∙◌, arith}
-use Rattle.fb_units.specs.Wait.{wait}
-use Rattle.fb_units.proofs.Waits.{wait_least, least_unique, least_of}
-use Rattle.fb_units.specs.declared.types.Place.{Place}
-use Rattle.fb_geometry.specs.Shape.{Shape}
-use Rattle.fb_service.specs.Passing.{begin_from, begin_angle, end_angle}
-use Rattle.fb_sectormap.specs.LookUp.{place_at}
-use Rattle.fb_service.specs.Service.{passage_from}
+use Rattle.fb_service.proofs.Words.{◌≡◌, ℕ, ◌+◌, ◌-◌, ◌<◌, ◌≤◌, ◌%◌, ap, ◌∙◌, arith, wait, wait_least, least_unique, least_of, Place}
+use Rattle.fb_service.proofs.Words.{Shape, begin_from, begin_angle, end_angle, place_at, passage_from}
 
 pub begins_at : (shape : Shape) (place : Place) (t waited : ℕ) → waited ≡ wait shape.rotation (begin_angle shape place) t
     → t + waited ≡ begin_from shape place t

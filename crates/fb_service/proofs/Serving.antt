@@ -1,22 +1,17 @@
 -- A service, extent after extent.
-use Rattle.std.proofs.Common.{◌≡◌, ℕ, zero, suc, ◌+◌, ◌-◌, ◌<◌, ◌≤◌, List, [], ◌∷◌, ◌++◌, map, Bool, true, refl, ap, sym, ◌∙◌, arith}
-use Rattle.std.proofs.Common.{append_assoc, append-nil, inl, inr, subst}
+use Rattle.fb_service.proofs.Words.{◌≡◌, ℕ, zero, suc, ◌+◌, ◌-◌, ◌<◌, ◌≤◌, List, [], ◌∷◌, ◌++◌, map, refl, ap, sym, ◌∙◌, arith}
+use Rattle.fb_service.proofs.Words.{append_assoc, append-nil, inl, inr, subst, range_with_len, AllByRecursion, cases_lt, Shape, pos}
+use Rattle.fb_service.proofs.Words.{place_at, Passage, Extent, begin_from, begin_angle, end_angle, length_of, ArePassing, passage_from}
+use Rattle.fb_service.proofs.Words.{passages, passages_of, all_passages_of, FollowOn, IsUnbroken}
+use Rattle.std.proofs.Common.{Bool, true}
 use Rattle.std.specs.Prelude.{◌==◌}
-use Rattle.std.specs.List.{range_with_len, AllByRecursion}
 use Rattle.std.proofs.lemmas.List.Concat.{flat_map-append}
-use Rattle.std.proofs.lemmas.Bool.{cases_lt, and_from, eq-eqb}
+use Rattle.std.proofs.lemmas.Bool.{and_from, eq-eqb}
 use Rattle.fb_units.specs.declared.types.Track.{Track}
 use Rattle.fb_units.specs.Tracks.{same_track}
-use Rattle.fb_geometry.specs.Shape.{Shape}
 use Rattle.fb_seek.specs.Mechanics.{Mechanics}
-use Rattle.fb_seek.specs.Positioning.{pos}
-use Rattle.fb_sectormap.specs.LookUp.{place_at}
 use Rattle.fb_service.specs.declared.disk.Disk.{Disk}
-use Rattle.fb_service.specs.declared.passage.Passage.{Passage}
-use Rattle.fb_service.specs.declared.passage.Extent.{Extent}
-use Rattle.fb_service.specs.Passing.{begin_from, begin_angle, end_angle, length_of, ArePassing}
-use Rattle.fb_service.specs.Service.{passage_from, passages, finish_of, media_of}
-use Rattle.fb_service.specs.Extents.{passages_of, all_passages_of, FollowOn, IsUnbroken}
+use Rattle.fb_service.specs.Service.{finish_of, media_of}
 use Rattle.fb_service.proofs.Passes.{begin_from_again}
 
 -- when the way to a sector has ended

@@ -1,11 +1,10 @@
 -- The slots of a track as the platter turns on: slot n + s is slot s one rotation later.
-use Rattle.std.proofs.Common.{◌≡◌, ℕ, zero, suc, ◌+◌, ◌-◌, ◌*◌, ◌/◌, ◌%◌, ◌<◌, ◌≤◌, ap, ◌∙◌, inl, inr, ◌⊎◌, arith}
+use Rattle.fb_service.proofs.Words.{◌≡◌, ℕ, zero, suc, ◌+◌, ◌-◌, ◌*◌, ◌%◌, ◌<◌, ◌≤◌, ap, ◌∙◌, inl, inr, arith, cases_lt, wait, wait_least}
+use Rattle.fb_service.proofs.Words.{least_unique, least_of, slot_begin}
+use Rattle.std.proofs.Common.{◌/◌, ◌⊎◌}
 use Rattle.std.proofs.Math.Nat.{add-mul-div_right, mod-eq_of_lt, add-mod_left}
 use Rattle.std.proofs.lemmas.Nat.{le-div, div-add-mod', div-mul-add}
-use Rattle.std.proofs.lemmas.Bool.{cases_lt}
-use Rattle.fb_units.specs.Wait.{wait}
-use Rattle.fb_units.proofs.Waits.{wait_least, least_unique, least_of, rest_is}
-use Rattle.fb_geometry.specs.Angles.{slot_begin}
+use Rattle.fb_units.proofs.Waits.{rest_is}
 
 module _ (rotation n : ℕ) (some : 0 < n) (short : n ≤ rotation) where
   abbrev angle : ℕ → ℕ

@@ -1,17 +1,8 @@
 -- Neighbouring slots pass without a wait.
-use Rattle.std.proofs.Common.{◌≡◌, ℕ, zero, suc, ◌+◌, ◌<◌, ◌≤◌, ◌%◌, map, refl, ap, sym, ◌∙◌, subst, arith}
-use Rattle.std.specs.List.{range_with_len}
-use Rattle.fb_units.specs.declared.types.Place.{Place}
-use Rattle.fb_units.specs.Wait.{wait}
-use Rattle.fb_units.proofs.Waits.{wait_least}
-use Rattle.fb_geometry.specs.Shape.{Shape, slots_at}
-use Rattle.fb_geometry.specs.Angles.{slot_begin}
-use Rattle.fb_sectormap.specs.LookUp.{place_at, neighbour}
-use Rattle.fb_service.specs.declared.passage.Passage.{Passage}
-use Rattle.fb_service.specs.declared.passage.Extent.{Extent}
-use Rattle.fb_service.specs.Passing.{begin_from, begin_angle, length_of, turned, ArePassing}
-use Rattle.fb_service.specs.Service.{passage_from}
-use Rattle.fb_service.specs.Extents.{passages_of, FollowOn, IsUnbroken}
+use Rattle.fb_service.proofs.Words.{◌≡◌, ℕ, zero, suc, ◌+◌, ◌<◌, ◌≤◌, ◌%◌, map, refl, ap, sym, ◌∙◌, subst, arith, range_with_len, Place}
+use Rattle.fb_service.proofs.Words.{wait, wait_least, Shape, slots_at, slot_begin, place_at, Passage, Extent, begin_from, begin_angle}
+use Rattle.fb_service.proofs.Words.{length_of, turned, ArePassing, passage_from, passages_of, FollowOn, IsUnbroken}
+use Rattle.fb_sectormap.specs.LookUp.{neighbour}
 use Rattle.fb_service.proofs.Turning.{begins-behind, as-long, in-turn, next-after, later-after}
 
 -- a slot that begins to pass begins at its own angle

@@ -1,12 +1,8 @@
 -- What a sector holds, according to where the ranges begin.
-use Rattle.std.proofs.Common.{◌≡◌, ◌≢◌, ℕ, ◌<◌, ◌≤◌, Option, Some, None, refl, false, Less, arith, sym, ap, ap₂, ◌∙◌, suc, zero, inl, inr, rules}
-use Rattle.std.specs.Option.{unwrap_or, IsSome}
-use Rattle.std.specs.Ordering.{nat_cmp, is_gt, is_lt}
-use Rattle.std.specs.BTreeMap.{is_at}
-use Rattle.std.proofs.lemmas.Bool.{cases_lt}
-use Rattle.std.proofs.lemmas.Bool.Decides.{nat_tests}
-use Rattle.fb_store.specs.declared.content.Content.{Content}
-use Rattle.fb_store.specs.Ranges.{held_of}
+use Rattle.fb_store.proofs.Words.{◌≡◌, ℕ, ◌<◌, ◌≤◌, Option, Some, None, refl, false, arith, sym, ap, ap₂, ◌∙◌, suc, zero, inl, inr}
+use Rattle.fb_store.proofs.Words.{unwrap_or, IsSome, nat_cmp, is_at, cases_lt, nat_tests, Content, held_of}
+use Rattle.std.proofs.Common.{◌≢◌, Less, rules}
+use Rattle.std.specs.Ordering.{is_gt, is_lt}
 
 abbrev Begins : Type 0
 Begins = ℕ → Option (Option Content)

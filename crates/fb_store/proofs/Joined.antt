@@ -1,10 +1,8 @@
 -- A run behind the fewest runs joins the last of them, or becomes a run of its own.
-use Rattle.std.proofs.Common.{◌≡◌, ℕ, ◌+◌, ◌-◌, ◌<◌, ◌≤◌, List, [], ◌∷◌, ◌++◌, refl, true, false, true≢false, Bool, cond, arith, sym, ap, ap₂, ◌∙◌}
-use Rattle.std.proofs.Common.{◌&&◌, ◌==◌, suc, zero, eqb→eq, length, get_or, set, Some, slice_get}
-use Rattle.std.proofs.lemmas.Option.{get_or_from_slice_get}
-use Rattle.fb_store.specs.declared.content.Content.{Content}
-use Rattle.fb_store.specs.declared.content.ContentRun.{ContentRun}
-use Rattle.fb_store.specs.Runs.{same_content, with_content, runs_of, sectors_of, sectors_in, joins, last_joins, IsRun}
+use Rattle.fb_store.proofs.Words.{◌≡◌, ℕ, ◌+◌, ◌-◌, ◌<◌, ◌≤◌, List, [], ◌∷◌, ◌++◌, refl, true, false, true≢false, Bool, cond, arith, sym}
+use Rattle.fb_store.proofs.Words.{ap, ap₂, ◌∙◌, ◌&&◌, ◌==◌, suc, zero, eqb→eq, length, get_or, set, Some, slice_get, get_or_from_slice_get}
+use Rattle.fb_store.proofs.Words.{Content, ContentRun, same_content, with_content, runs_of, sectors_of, sectors_in, joins, IsRun}
+use Rattle.fb_store.specs.Runs.{last_joins}
 use Rattle.fb_store.proofs.Runs.{so, left, right, is_same, sectors_of-runs_of}
 use Rattle.fb_store.proofs.Longest.{held, run_of, run_ahead}
 
@@ -153,6 +151,6 @@ pub one_more : (content_of : ℕ → Content) (first lbn end : ℕ) (run : Conte
 one_more content_of first lbn end run runs more from is so_far next =
     let at : first + (lbn - first) ≡ run.first = let here = is.from in omega arith in
     let all : lbn - first + run.count ≡ lbn + run.count - first = omega arith in
-    next ∙ ap runs_of (ap₂ (λ before its. before ++ its) (fewest-again (held content_of first (lbn - first)) runs so_far).0
+    next ∙ ap runs_of (ap₂ (λ before its. before ++ its) (fewest_again (held content_of first (lbn - first)) runs so_far).0
     (held_same content_of run.first run.count run.content is.same ∙ ap (λ l. held content_of l run.count) (sym at))
     ∙ (sym (held_split content_of first (lbn - first) run.count) ∙ ap (held content_of first) all))

@@ -1,9 +1,6 @@
 -- Runs that are kept short.
-use Rattle.std.proofs.Common.{◌≡◌, ℕ, List, map, set, ap₂, ◌∙◌}
+use Rattle.fb_store.proofs.Words.{◌≡◌, ℕ, List, map, set, ap₂, ◌∙◌, ContentRun, ShortRun, run_of}
 use Rattle.std.proofs.lemmas.List.{map-set}
-use Rattle.fb_store.specs.declared.content.ContentRun.{ContentRun}
-use Rattle.fb_store.specs.declared.contents.ShortRun.{ShortRun}
-use Rattle.fb_store.specs.Kept.{run_of}
 
 pub short_set : (kept : List ShortRun) (runs : List ContentRun) (i : ℕ) (short : ShortRun) (run : ContentRun) → map run_of kept ≡ runs
     → run_of short ≡ run → map run_of (set kept i short) ≡ set runs i run

@@ -1,14 +1,9 @@
 -- The fewest runs of neighbouring sectors.
-use Rattle.std.proofs.Common.{◌≡◌, ℕ, ◌+◌, ◌<◌, ◌≤◌, List, [], ◌∷◌, refl, true, false, map, Bool, cond, arith, sym, ap, ap₂, ◌∙◌}
-use Rattle.std.proofs.Common.{◌&&◌, ◌==◌, suc, zero, eqb→eq}
-use Rattle.std.specs.List.{range_with_len, sum_by, AllByRecursion}
-use Rattle.std.proofs.lemmas.Bool.Decides.{nat_tests}
+use Rattle.fb_store.proofs.Words.{◌≡◌, ℕ, ◌+◌, ◌<◌, ◌≤◌, List, [], ◌∷◌, refl, true, false, map, Bool, cond, arith, sym, ap, ap₂, ◌∙◌, ◌&&◌}
+use Rattle.fb_store.proofs.Words.{◌==◌, suc, zero, eqb→eq, range_with_len, sum_by, AllByRecursion, nat_tests, Content, Filled, Unreadable}
+use Rattle.fb_store.proofs.Words.{ContentRun, same_content, with_content, runs_of}
 use Rattle.std.proofs.lemmas.List.Sums.{sum_by-cons}
-use Rattle.fb_store.specs.declared.content.Content.{Content}
-use Rattle.fb_store.specs.declared.content.Content.TheVariants.{Filled, Unreadable}
-use Rattle.fb_store.specs.declared.content.ContentRun.{ContentRun}
 use Rattle.fb_store.proofs.Runs.{so, left, joined}
-use Rattle.fb_store.specs.Runs.{same_content, with_content, runs_of}
 
 -- n sectors from the first on, each with its content
 abbrev pub held : (ℕ → Content) → ℕ → ℕ → List (ℕ × Content)

@@ -1,18 +1,9 @@
 -- What sectors hold before any write, and after one.
-use Rattle.std.proofs.Common.{◌≡◌, ℕ, ◌+◌, ◌-◌, ◌<◌, ◌≤◌, List, [], ◌∷◌, Option, Some, None, refl, true, false, Bool, cond, ◌||◌, ◌==◌}
-use Rattle.std.proofs.Common.{arith, sym, ap, ap₂, ◌∙◌, inl, inr}
-use Rattle.std.specs.Ordering.{nat_cmp}
-use Rattle.std.specs.BTreeMap.{is_at}
-use Rattle.std.specs.Option.{IsSome, unwrap_or}
+use Rattle.fb_store.proofs.Words.{◌≡◌, ℕ, ◌+◌, ◌-◌, ◌<◌, ◌≤◌, List, [], ◌∷◌, Option, Some, None, refl, true, false, Bool, cond, ◌==◌}
+use Rattle.fb_store.proofs.Words.{arith, sym, ap, ap₂, ◌∙◌, inl, inr, nat_cmp, is_at, IsSome, unwrap_or, cases_lt, nat_tests, Content}
+use Rattle.fb_store.proofs.Words.{Filled, Unreadable, ContentRun, IsRun, unwritten, is_within, after_write, held_of, begins_at, content_in}
+use Rattle.std.proofs.Common.{◌||◌}
 use Rattle.std.specs.List.{list_any}
-use Rattle.std.proofs.lemmas.Bool.{cases_lt}
-use Rattle.std.proofs.lemmas.Bool.Decides.{nat_tests}
-use Rattle.fb_store.specs.declared.content.Content.{Content}
-use Rattle.fb_store.specs.declared.content.Content.TheVariants.{Filled, Unreadable}
-use Rattle.fb_store.specs.declared.content.ContentRun.{ContentRun}
-use Rattle.fb_store.specs.Runs.{IsRun}
-use Rattle.fb_store.specs.Writes.{unwritten, is_within, after_write}
-use Rattle.fb_store.specs.Ranges.{held_of, begins_at, content_in}
 use Rattle.fb_store.proofs.Held.{steady, none_there, none_held}
 
 same_key : (lbn bad : ℕ) → is_at (nat_cmp lbn) bad ≡ (bad == lbn)

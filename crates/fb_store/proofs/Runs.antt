@@ -1,11 +1,9 @@
 -- The fewest runs of sectors give exactly these contents, and no run continues the one before it.
-use Rattle.std.proofs.Common.{◌≡◌, ℕ, ◌+◌, List, [], ◌∷◌, ◌++◌, refl, true, false, map, Bool, cond, T, arith, sym, ap, ap₂, ◌∙◌, true≢false}
-use Rattle.std.proofs.Common.{eqb→eq, ◌&&◌, ◌==◌, suc}
-use Rattle.std.specs.List.{range_with_len}
-use Rattle.fb_store.specs.declared.content.Content.{Content}
-use Rattle.fb_store.specs.declared.content.Content.TheVariants.{Filled, Unreadable}
-use Rattle.fb_store.specs.declared.content.ContentRun.{ContentRun}
-use Rattle.fb_store.specs.Runs.{same_content, with_content, runs_of, sectors_of, AreFewest}
+use Rattle.fb_store.proofs.Words.{◌≡◌, ℕ, ◌+◌, List, [], ◌∷◌, ◌++◌, refl, true, false, map, Bool, cond, arith, sym, ap, ap₂, ◌∙◌}
+use Rattle.fb_store.proofs.Words.{true≢false, eqb→eq, ◌&&◌, ◌==◌, suc, range_with_len, Content, Filled, Unreadable, ContentRun}
+use Rattle.fb_store.proofs.Words.{same_content, with_content, runs_of, sectors_of}
+use Rattle.std.proofs.Common.{T}
+use Rattle.fb_store.specs.Runs.{AreFewest}
 
 pub so : (b : Bool) → b ≡ true → T b
 so true p = tt

@@ -1,18 +1,14 @@
 -- What sectors hold after contents were taken or a range was dropped, and the contents of ranges.
-use Rattle.std.proofs.Common.{◌≡◌, ℕ, ◌+◌, ◌-◌, ◌<◌, ◌≤◌, List, [], ◌∷◌, ◌++◌, Option, Some, None, refl, true, false, map, Bool, cond, length}
-use Rattle.std.proofs.Common.{arith, sym, ap, ap₂, ◌∙◌, ◌==◌, suc, zero, inl, inr, take, append_assoc, append-nil, slice_get, subst}
-use Rattle.std.specs.Option.{IsSome, option_or}
-use Rattle.std.specs.List.{range_with_len, AllByRecursion}
-use Rattle.std.proofs.lemmas.Bool.{cases_lt}
+use Rattle.fb_store.proofs.Words.{◌≡◌, ℕ, ◌+◌, ◌-◌, ◌<◌, ◌≤◌, List, [], ◌∷◌, ◌++◌, Option, Some, None, refl, true, false, map, Bool, cond}
+use Rattle.fb_store.proofs.Words.{length, arith, sym, ap, ap₂, ◌∙◌, ◌==◌, suc, zero, inl, inr, take, slice_get, subst, IsSome}
+use Rattle.fb_store.proofs.Words.{range_with_len, AllByRecursion, cases_lt, Content, ContentRun, runs_of, sectors_of, sectors_in}
+use Rattle.fb_store.proofs.Words.{is_within, held_at, begins_at, after_taking, after_dropping, held_in, EndsBy}
+use Rattle.std.proofs.Common.{append_assoc, append-nil}
+use Rattle.std.specs.Option.{option_or}
 use Rattle.std.proofs.lemmas.Option.{same_Some}
 use Rattle.fb_units.proofs.Lists.{take_at}
 use Rattle.fb_units.proofs.Comparing.{less_differs, same_number as here, more_differs}
-use Rattle.fb_store.specs.declared.content.Content.{Content}
-use Rattle.fb_store.specs.declared.content.ContentRun.{ContentRun}
-use Rattle.fb_store.specs.Runs.{runs_of, sectors_of, sectors_in}
-use Rattle.fb_store.specs.Writes.{is_within}
-use Rattle.fb_store.specs.Ranges.{held_at, begins_at}
-use Rattle.fb_store.specs.Sparse.{after_taking, after_take, after_dropping, held_sector, held_in, EndsBy}
+use Rattle.fb_store.specs.Sparse.{after_take, held_sector}
 use Rattle.fb_store.proofs.Held.{none_held}
 use Rattle.fb_store.proofs.Originals.{inside, before, after, goes_on}
 use Rattle.fb_store.proofs.Joined.{fewest_again}

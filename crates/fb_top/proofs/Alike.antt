@@ -1,9 +1,6 @@
 -- What is held under a name is read in one way.
-use Rattle.std.proofs.Common.{◌≡◌, ℕ, ◌<◌, ◌≤◌, List, length, Option, Some, None, Result, Ok, Err, true, refl, sym, ap, subst, ◌∙◌, arith}
-use Rattle.std.specs.Prelude.{IfSome, is_some}
-use Rattle.fb_desk.specs.View.{DeskView}
-use Rattle.fb_streams.specs.Streams.{IsHeld, IsLonger, ReadsAs}
-use Rattle.fb_top.specs.Untouched.{HoldAlike}
+use Rattle.fb_top.proofs.Words.{◌≡◌, ℕ, ◌<◌, ◌≤◌, List, length, Option, Some, None, Result, Ok, Err, true, refl, sym, ap, subst, ◌∙◌}
+use Rattle.fb_top.proofs.Words.{arith, IfSome, is_some, DeskView, IsHeld, IsLonger, ReadsAs, HoldAlike}
 
 -- what was read are the bytes that are told
 pub held_here : (told : Option (List ℕ)) (bytes here : List ℕ) → told ≡ Some here → IfSome told (λ held. bytes ≡ held) → bytes ≡ here

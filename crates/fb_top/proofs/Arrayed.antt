@@ -1,33 +1,17 @@
 -- What an array has written, and why it has its answer.
-use Rattle.std.proofs.Common.{◌≡◌, ◌≢◌, ◌∙◌, ℕ, List, ◌++◌, Option, Some, None, true, length, refl, sym, ap, subst, arith, inl, inr}
+use Rattle.fb_top.proofs.Words.{◌≡◌, ◌≢◌, ◌∙◌, ℕ, List, ◌++◌, Option, Some, None, true, length, refl, sym, ap, subst, arith, inl, inr}
+use Rattle.fb_top.proofs.Words.{slice_get, AllByRecursion, option_map, Run, copy_lines, Rebuilt, DeskView, Trace, Output, Fore, Back}
+use Rattle.fb_top.proofs.Words.{Copied, ArrayTerms, RebuildTerms, ArrayHasCause, IsRunOfDevice, array_texts, rebuild_texts, replacement}
+use Rattle.fb_top.proofs.Words.{sectors_of, survivor, RunsOut, Array, StopsArray, is_rebuilt_from, array_names, KeepsOutputs, InputsError}
+use Rattle.fb_top.proofs.Words.{TextsError, StopsTexts, Text, WritesAll, joined, one_text, unwritten, unread, stops_texts, writes_all}
+use Rattle.fb_top.proofs.Words.{ends_at}
 use Rattle.std.proofs.lemmas.Bool.Decides.{nat_tests}
-use Rattle.std.specs.Prelude.{slice_get}
-use Rattle.std.specs.List.{AllByRecursion}
-use Rattle.std.specs.Option.{option_map}
-use Rattle.fb_rows.specs.declared.run.Run.{Run}
 use Rattle.fb_report.specs.Back.{back_text}
-use Rattle.fb_mirror.specs.Copy.{copy_lines}
-use Rattle.fb_mirror.specs.declared.rebuilt.Rebuilt.{Rebuilt}
-use Rattle.fb_desk.specs.View.{DeskView}
-use Rattle.fb_desk.specs.declared.desk.Input.TheVariants.{Trace}
-use Rattle.fb_desk.specs.declared.desk.Output.{Output}
-use Rattle.fb_desk.specs.declared.desk.Output.TheVariants.{Fore, Back, Copied}
-use Rattle.fb_words.specs.Command.{ArrayTerms, RebuildTerms}
-use Rattle.fb_top.specs.Array.{AreRunsOf, ArrayHasCause, IsArrayCut, IsArrayed, IsRunOfDevice, array_texts, rebuild_texts, replacement}
-use Rattle.fb_top.specs.Array.{sectors_of, survivor}
-use Rattle.fb_inputs.specs.Causes.{RunsOut}
-use Rattle.fb_inputs.specs.Devices.{Array, StopsArray, is_rebuilt_from}
-use Rattle.fb_streams.specs.Names.{array_names}
+use Rattle.fb_top.specs.Array.{AreRunsOf, IsArrayCut, IsArrayed}
 use Rattle.fb_top.specs.Taken.{TakesArray}
-use Rattle.fb_streams.specs.Streams.{KeepsOutputs}
-use Rattle.fb_inputs.specs.declared.error.InputsError.{InputsError}
 use Rattle.fb_inputs.specs.declared.error.InputsError.TheVariants as inputs
-use Rattle.fb_texts.specs.declared.error.TextsError.{TextsError}
 use Rattle.fb_texts.specs.declared.error.TextsError.TheVariants as faults
-use Rattle.fb_texts.specs.Written.{StopsTexts, Text, WritesAll, joined, one_text}
-use Rattle.fb_top.specs.Ends.{unwritten, unread}
-use Rattle.fb_texts.proofs.Texts.{IsApart, stops_texts, writes_all}
-use Rattle.fb_inputs.proofs.Account.{ends_at}
+use Rattle.fb_texts.proofs.Texts.{IsApart}
 
 -- what holds of the outputs of a rebuild holds of the texts that it asks for
 pub all_rebuild : (P : Output → Type 0) (terms : ArrayTerms) (array : Array) (rebuild : Option RebuildTerms) (run : Option Run) → P Back

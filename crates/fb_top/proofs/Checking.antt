@@ -1,28 +1,13 @@
 -- What a check read and wrote, told of the desk at the start.
-use Rattle.std.proofs.Common.{◌≡◌, ℕ, List, Option, arith, refl, subst, inl, inr}
-use Rattle.std.specs.Prelude.{IfSome}
-use Rattle.fb_report.specs.Grammar.{Grammar, LineFields, back_grammar, fore_grammar}
-use Rattle.fb_check.specs.declared.verdict.Verdict.{Verdict}
-use Rattle.fb_desk.specs.View.{DeskView}
-use Rattle.fb_desk.specs.declared.desk.Input.TheVariants.{BackReport}
-use Rattle.fb_words.specs.Command.{CheckTerms}
-use Rattle.fb_streams.specs.Called.{Stream, check_asks}
-use Rattle.fb_streams.specs.Names.{check_names}
-use Rattle.fb_streams.specs.Streams.{KeepsOutputs}
-use Rattle.fb_inputs.specs.Account.{Account, AreReadAs}
-use Rattle.fb_inputs.specs.Causes.{StopsInputs}
-use Rattle.fb_inputs.specs.Read.{Files, ReadsReport}
-use Rattle.fb_inputs.specs.declared.error.InputsError.{InputsError}
+use Rattle.fb_top.proofs.Words.{◌≡◌, ℕ, List, Option, arith, refl, subst, inl, inr, IfSome, Grammar, LineFields, back_grammar}
+use Rattle.fb_top.proofs.Words.{fore_grammar, Verdict, DeskView, BackReport, CheckTerms, check_asks, check_names, KeepsOutputs, AreReadAs}
+use Rattle.fb_top.proofs.Words.{StopsInputs, Files, ReadsReport, InputsError, and_then, StopsTexts, WritesAll, TextsError, stops_texts}
+use Rattle.fb_top.proofs.Words.{writes_all, CheckHasCause, IsVerdictOf, check_texts, unread, unwritten, TakesCheck}
+use Rattle.fb_streams.specs.Called.{Stream}
+use Rattle.fb_inputs.specs.Account.{Account}
 use Rattle.fb_inputs.specs.declared.error.InputsError.TheVariants as inputs
-use Rattle.fb_inputs.proofs.Account.{and_then}
-use Rattle.fb_texts.specs.Written.{StopsTexts, WritesAll}
-use Rattle.fb_texts.specs.declared.error.TextsError.{TextsError}
 use Rattle.fb_texts.specs.declared.error.TextsError.TheVariants as faults
-use Rattle.fb_texts.proofs.Texts.{stops_texts, writes_all}
-use Rattle.fb_top.specs.Causes.{CheckHasCause}
-use Rattle.fb_top.specs.Checked.{IsChecked, IsVerdictCut, IsVerdictOf, JudgesBy, check_texts}
-use Rattle.fb_top.specs.Ends.{unread, unwritten}
-use Rattle.fb_top.specs.Taken.{TakesCheck}
+use Rattle.fb_top.specs.Checked.{IsChecked, IsVerdictCut, JudgesBy}
 
 -- why the inputs were not accepted
 pub check_stopped : (terms : CheckTerms) (old new : DeskView) (error : InputsError) → StopsInputs (check_names terms) old new error

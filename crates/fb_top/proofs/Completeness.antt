@@ -1,38 +1,29 @@
 -- What goes well is done.
-use Rattle.std.proofs.Common.{◌≡◌, ℕ, List, length, Option, Some, None, true, refl, sym, ap, subst, ◌∙◌, ◌⊎◌, inl, inr, Result, Ok, Err}
-use Rattle.std.specs.Prelude.{IfSome, is_some}
-use Rattle.fb_service.specs.declared.disk.Disk.{Disk}
-use Rattle.fb_trace.specs.Reading.{Accepted}
-use Rattle.fb_calls.specs.declared.fault.CallsFault.{CallsFault}
-use Rattle.fb_report.specs.Grammar.{Grammar, LineFields, fore_grammar, back_grammar, report_of}
-use Rattle.fb_desk.specs.View.{DeskView}
+use Rattle.fb_top.proofs.Words.{◌≡◌, ℕ, List, length, Option, Some, None, true, refl, sym, ap, subst, ◌∙◌, ◌⊎◌, inl, inr, Result, Ok, Err}
+use Rattle.fb_top.proofs.Words.{IfSome, is_some, Disk, Accepted, CallsFault, Grammar, LineFields, fore_grammar, back_grammar, report_of}
+use Rattle.fb_top.proofs.Words.{DeskView, Params, Trace, Puts, ForeReport, BackReport, Output, Terms, ReplayTerms, CheckTerms, MakeTerms}
+use Rattle.fb_top.proofs.Words.{ArrayTerms, RebuildTerms, replays, makes, checks, arrays, replay_names, check_names, array_names, IsLonger}
+use Rattle.fb_top.proofs.Words.{ReadsAs, AcceptsDisk, StopsInputs, ReadsRebuild, StopsArray, Files, ReadsReport, ReadsScript}
+use Rattle.fb_top.proofs.Words.{RefusesReport, InputsError, ArrayHasCause, array_texts, survivor, CheckHasCause, HasCause, check_texts}
+use Rattle.fb_top.proofs.Words.{IsJudged, TellsReport, unread, MakeHasCause, make_texts, IsReplayCut, replay_texts, HoldAlike, Outcome}
 use Rattle.fb_desk.specs.declared.desk.Input.{Input}
-use Rattle.fb_desk.specs.declared.desk.Input.TheVariants.{Params, Trace, Calls, Puts, ForeReport, BackReport}
-use Rattle.fb_desk.specs.declared.desk.Output.{Output}
-use Rattle.fb_words.specs.Command.{Terms, ReplayTerms, CheckTerms, MakeTerms, ArrayTerms, RebuildTerms, replays, makes, checks, arrays}
+use Rattle.fb_desk.specs.declared.desk.Input.TheVariants.{Calls}
 use Rattle.fb_words.specs.declared.fault.UsageFault.{UsageFault}
-use Rattle.fb_streams.specs.Names.{InputNames, replay_names, check_names, array_names}
-use Rattle.fb_streams.specs.Streams.{IsLonger, ReadsAs}
-use Rattle.fb_inputs.specs.Causes.{AcceptsDisk, AcceptsFiles, AcceptsTrace, IsTooLong, RefusesReportInTurn, StopsInputs}
-use Rattle.fb_inputs.specs.Devices.{ReadsRebuild, RefusesRebuild, RefusesTraces, StopsArray}
+use Rattle.fb_streams.specs.Names.{InputNames}
+use Rattle.fb_inputs.specs.Causes.{AcceptsFiles, AcceptsTrace, IsTooLong, RefusesReportInTurn}
+use Rattle.fb_inputs.specs.Devices.{RefusesRebuild, RefusesTraces}
 use Rattle.fb_inputs.specs.Limits.{limit_of, report_limit}
-use Rattle.fb_inputs.specs.Read.{Files, ReadsCalls, ReadsReport, ReadsScript, RefusesCalls, RefusesPuts, RefusesReport, RefusesTrace}
-use Rattle.fb_inputs.specs.declared.error.InputsError.{InputsError}
+use Rattle.fb_inputs.specs.Read.{ReadsCalls, RefusesCalls, RefusesPuts, RefusesTrace}
 use Rattle.fb_inputs.specs.declared.error.InputsError.TheVariants as inputs
 use Rattle.fb_inputs.proofs.Account.{is_named}
 use Rattle.fb_texts.specs.Written.{OutputFaultsRose}
 use Rattle.fb_texts.specs.declared.error.TextsError.TheVariants as faults
 use Rattle.fb_texts.proofs.Texts.{cut_among}
 use Rattle.fb_top.specs.Answers.{AnswersWords}
-use Rattle.fb_top.specs.Array.{ArrayGoesWell, ArrayHasCause, IsReplayed, array_texts, survivor}
-use Rattle.fb_top.specs.Causes.{CheckHasCause, HasCause}
-use Rattle.fb_top.specs.Checked.{check_texts}
-use Rattle.fb_top.specs.Complete.{CheckGoesWell, GoesWell, IsComplete, IsJudged, IsMade, ReadsWell, TellsPuts, TellsReport}
-use Rattle.fb_top.specs.Ends.{IsUnaccepted, unread}
-use Rattle.fb_top.specs.Make.{MakeHasCause, MakeGoesWell, MakesAll, make_texts}
-use Rattle.fb_top.specs.Spilled.{IsReplayCut, replay_texts}
-use Rattle.fb_top.specs.Untouched.{HoldAlike}
-use Rattle.fb_top.specs.declared.outcome.Outcome.{Outcome}
+use Rattle.fb_top.specs.Array.{ArrayGoesWell, IsReplayed}
+use Rattle.fb_top.specs.Complete.{CheckGoesWell, GoesWell, IsComplete, IsMade, ReadsWell, TellsPuts}
+use Rattle.fb_top.specs.Ends.{IsUnaccepted}
+use Rattle.fb_top.specs.Make.{MakeGoesWell, MakesAll}
 use Rattle.fb_top.specs.declared.outcome.Outcome.TheVariants as outcomes
 use Rattle.fb_top.proofs.Alike.{alike, never_longer, never_refused}
 use Rattle.fb_top.proofs.Arrayed.{all_rebuild}

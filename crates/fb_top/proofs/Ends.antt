@@ -1,21 +1,10 @@
 -- How commands end.
-use Rattle.std.proofs.Common.{Option, Some, None, inl, refl}
-use Rattle.fb_bgwrite.specs.declared.items.SpillRun.{SpillRun}
-use Rattle.fb_desk.specs.View.{DeskView}
-use Rattle.fb_rows.specs.declared.run.Run.{Run}
-use Rattle.fb_words.specs.Command.{ReplayTerms}
-use Rattle.fb_streams.specs.Called.{AreServed, Asked, EndsBy, Told}
-use Rattle.fb_inputs.specs.Ends.{failed_input}
-use Rattle.fb_inputs.specs.declared.error.InputsError.{InputsError}
+use Rattle.fb_top.proofs.Words.{Option, Some, None, inl, refl, SpillRun, DeskView, Run, ReplayTerms, AreServed, Told, failed_input}
+use Rattle.fb_top.proofs.Words.{InputsError, failed_output, TextsError, EndsAs, unread, unwritten, replay_names, StopsInputs, HasCause}
+use Rattle.fb_top.proofs.Words.{done_as}
+use Rattle.fb_streams.specs.Called.{Asked, EndsBy}
 use Rattle.fb_inputs.specs.declared.error.InputsError.TheVariants as inputs
-use Rattle.fb_texts.specs.Ends.{failed_output}
-use Rattle.fb_texts.specs.declared.error.TextsError.{TextsError}
 use Rattle.fb_texts.specs.declared.error.TextsError.TheVariants as faults
-use Rattle.fb_top.specs.Ends.{EndsAs, unread, unwritten}
-use Rattle.fb_streams.specs.Names.{replay_names}
-use Rattle.fb_inputs.specs.Causes.{StopsInputs}
-use Rattle.fb_top.specs.Causes.{HasCause}
-use Rattle.fb_top.specs.Taken.{done_as}
 
 pub done_ends : (asked : Asked) (run : Run) (spill : Option SpillRun) {a b : Told} → AreServed asked a b
     → EndsAs asked (done_as run spill) a b

@@ -1,3 +1,4 @@
+pub mod Words
 pub mod SameText
 pub mod Arrayed
 pub mod Making

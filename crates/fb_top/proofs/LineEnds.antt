@@ -1,17 +1,13 @@
 -- Texts that end with a line feed.
-use Rattle.std.proofs.Common.{◌≢◌, ◌++◌, ◌∷◌, [], min, refl}
-use Rattle.std.specs.Prelude.{codes, decimal}
+use Rattle.fb_top.proofs.Words.{◌≢◌, ◌++◌, ◌∷◌, [], refl, codes, decimal, Shape, Run, summary_text, Making, line_made, script_text}
+use Rattle.fb_top.proofs.Words.{line_of, request_at, EndsLine, note_of, Outcome}
+use Rattle.std.proofs.Common.{min}
 use Rattle.fb_units.specs.Numbers.{millis_text}
-use Rattle.fb_geometry.specs.Shape.{Shape}
-use Rattle.fb_rows.specs.declared.run.Run.{Run}
-use Rattle.fb_report.specs.Summary.{summary_lines, summary_text}
-use Rattle.fb_maker.specs.Making.{Making, line_made}
-use Rattle.fb_maker.specs.Script.{first_zone, most, script_lines, script_text}
-use Rattle.fb_maker.specs.Trace.{flags_text, line_of, request_at}
-use Rattle.fb_streams.specs.Called.{EndsLine}
+use Rattle.fb_report.specs.Summary.{summary_lines}
+use Rattle.fb_maker.specs.Script.{first_zone, most, script_lines}
+use Rattle.fb_maker.specs.Trace.{flags_text}
 use Rattle.fb_texts.proofs.LineEnds.{fields_end, joined_end}
-use Rattle.fb_top.specs.Notes.{cause_text, note_of}
-use Rattle.fb_top.specs.declared.outcome.Outcome.{Outcome}
+use Rattle.fb_top.specs.Notes.{cause_text}
 use Rattle.fb_top.specs.declared.outcome.Outcome.TheVariants as outcomes
 
 pub summary_ends : (run : Run) → EndsLine (summary_text run)

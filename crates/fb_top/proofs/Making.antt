@@ -1,26 +1,14 @@
 -- What a make wrote, told of the desk at the start.
-use Rattle.std.proofs.Common.{◌≡◌, ℕ, ◌<◌, length, subst, sym, ap, ◌∙◌, inl, inr, Some}
-use Rattle.std.specs.Prelude.{slice_get}
-use Rattle.std.specs.List.{range_with_len}
+use Rattle.fb_top.proofs.Words.{◌≡◌, ℕ, ◌<◌, length, subst, sym, ap, ◌∙◌, inl, inr, Some, slice_get, range_with_len}
+use Rattle.fb_top.proofs.Words.{length-map-range_with_len, slice_get-map, option_map, request_at, line_of, made_lines, DeskView, Params}
+use Rattle.fb_top.proofs.Words.{MakeTerms, AcceptsDisk, StopsDisk, TextsError, StopsTexts, WritesAll, stops_texts, writes_all}
+use Rattle.fb_top.proofs.Words.{KeepsOutputs, unwritten, unread, MakeHasCause, make_texts, counted, InputsError}
 use Rattle.std.proofs.lemmas.List.{length-map}
-use Rattle.std.proofs.lemmas.List.FromFn.{length-map-range_with_len}
-use Rattle.std.proofs.lemmas.Option.{slice_get-map}
-use Rattle.std.specs.Option.{option_map}
-use Rattle.fb_maker.specs.Trace.{request_at, line_of, made_lines, made_requests}
+use Rattle.fb_maker.specs.Trace.{made_requests}
 use Rattle.fb_desk.specs.Calls.{ChangesInput}
-use Rattle.fb_desk.specs.View.{DeskView}
-use Rattle.fb_desk.specs.declared.desk.Input.TheVariants.{Params}
-use Rattle.fb_words.specs.Command.{MakeTerms}
-use Rattle.fb_inputs.specs.Causes.{AcceptsDisk, StopsDisk, StopsReading}
-use Rattle.fb_texts.specs.declared.error.TextsError.{TextsError}
+use Rattle.fb_inputs.specs.Causes.{StopsReading}
 use Rattle.fb_texts.specs.declared.error.TextsError.TheVariants as faults
-use Rattle.fb_texts.specs.Written.{StopsTexts, WritesAll}
-use Rattle.fb_texts.proofs.Texts.{stops_texts, writes_all}
-use Rattle.fb_streams.specs.Streams.{KeepsOutputs}
-use Rattle.fb_top.specs.Ends.{unwritten, unread}
-use Rattle.fb_top.specs.Make.{IsMakeCut, MakeHasCause, make_texts}
-use Rattle.fb_texts.proofs.Each.{counted}
-use Rattle.fb_inputs.specs.declared.error.InputsError.{InputsError}
+use Rattle.fb_top.specs.Make.{IsMakeCut}
 use Rattle.fb_inputs.specs.declared.error.InputsError.TheVariants as inputs
 
 -- why the parameter file was not read

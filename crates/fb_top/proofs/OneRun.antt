@@ -1,18 +1,13 @@
 -- Files that hold the same bytes say the same.
-use Rattle.std.proofs.Common.{◌≡◌, ℕ, ◌%◌, ◌<◌, ◌≤◌, ◌^◌, List, length, Option, Some, None, sym, ap, subst, ◌∙◌}
+use Rattle.fb_top.proofs.Words.{◌≡◌, ℕ, ◌<◌, ◌≤◌, ◌^◌, List, length, Option, Some, None, sym, ap, subst, ◌∙◌, IfSome, places, Disk}
+use Rattle.fb_top.proofs.Words.{Accepted, DeskView, FileNames, Accepts, Files, ReadsDisk, ReadsTrace, ReadsScript, HoldAlike}
+use Rattle.fb_top.proofs.Words.{HoldFilesAlike}
+use Rattle.std.proofs.Common.{◌%◌}
 use Rattle.std.proofs.Math.Bridge.{le_prop}
 use Rattle.std.proofs.Math.Nat.{ℕ_set}
-use Rattle.std.specs.Prelude.{IfSome}
-use Rattle.fb_geometry.specs.Places.{places}
 use Rattle.fb_geometry.specs.Shape.{cylinders_of}
-use Rattle.fb_service.specs.declared.disk.Disk.{Disk}
 use Rattle.fb_params.specs.ParamsValue.{ParamsValue}
-use Rattle.fb_trace.specs.Reading.{Accepted}
 use Rattle.fb_calls.specs.Reading.{Accepted as Script}
-use Rattle.fb_desk.specs.View.{DeskView}
-use Rattle.fb_streams.specs.Names.{FileNames}
-use Rattle.fb_inputs.specs.Read.{Accepts, Files, ReadsDisk, ReadsTrace, ReadsScript}
-use Rattle.fb_top.specs.Untouched.{HoldAlike, HoldFilesAlike}
 use Rattle.fb_top.proofs.Alike.{accepted_once}
 
 pub one_value : (one other : DeskView) (name : List ℕ) (disk disk' : Disk) (latent latent' : List ℕ) → HoldAlike one other name

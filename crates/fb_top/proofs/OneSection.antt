@@ -1,31 +1,19 @@
 -- The trace and the calls of one device of an array.
-use Rattle.std.proofs.Common.{◌≡◌, ◌∙◌, ℕ, ◌≤◌, ◌^◌, List, [], length, map, refl, sym, ap, subst, arith, inl, inr, Option, Some, None, true}
-use Rattle.std.proofs.Common.{false, Result, Ok, Err}
-use Rattle.std.specs.Prelude.{Bool, nat_eq, slice_get, if◌then◌else◌}
-use Rattle.std.specs.List.{range_with_len}
-use Rattle.std.specs.Option.{option_map}
-use Rattle.std.proofs.lemmas.Bool.{cases_Bool}
-use Rattle.std.proofs.lemmas.List.FromFn.{length-map-range_with_len}
-use Rattle.std.proofs.lemmas.Option.{slice_get-map, slice_get_within}
+use Rattle.fb_top.proofs.Words.{◌≡◌, ◌∙◌, ℕ, ◌≤◌, ◌^◌, List, [], length, map, refl, sym, ap, subst, arith, inl, inr, Option, Some, None}
+use Rattle.fb_top.proofs.Words.{true, false, Result, Ok, Err, Bool, slice_get, if◌then◌else◌, range_with_len, option_map, cases_Bool}
+use Rattle.fb_top.proofs.Words.{length-map-range_with_len, slice_get-map, Shape, places, IsSound, Disk, Accepted, CallsFault, promoted}
+use Rattle.fb_top.proofs.Words.{rebuild_calls, DeskView, RebuildTerms, ReadsTrace, Array, ReadsRebuild, counted}
+use Rattle.std.specs.Prelude.{nat_eq}
+use Rattle.std.proofs.lemmas.Option.{slice_get_within}
 use Rattle.fb_units.proofs.Lists.{one_element}
-use Rattle.fb_geometry.specs.Shape.{Shape}
-use Rattle.fb_geometry.specs.Places.{places}
-use Rattle.fb_geometry.specs.Sound.{IsSound}
-use Rattle.fb_service.specs.declared.disk.Disk.{Disk}
-use Rattle.fb_trace.specs.Reading.{Accepted, trace_of}
+use Rattle.fb_trace.specs.Reading.{trace_of}
 use Rattle.fb_calls.specs.Judgement.{are_too_many}
 use Rattle.fb_calls.specs.Reading.{Accepted as Script, calls_of, fault_at}
-use Rattle.fb_calls.specs.declared.fault.CallsFault.{CallsFault}
 use Rattle.fb_calls.specs.declared.fault.CallsReason.TheVariants.{TooManyBlocks}
-use Rattle.fb_model.specs.Foreground.{promoted}
-use Rattle.fb_mirror.specs.Script.{disk_blocks, rebuild_calls, rebuild_text}
+use Rattle.fb_mirror.specs.Script.{disk_blocks, rebuild_text}
 use Rattle.fb_mirror.proofs.ScriptRead.{script_read}
-use Rattle.fb_desk.specs.View.{DeskView}
-use Rattle.fb_words.specs.Command.{RebuildTerms}
-use Rattle.fb_inputs.specs.Read.{ReadsTrace}
-use Rattle.fb_inputs.specs.Devices.{Array, ReadsRebuild, ReadsTraces, device_files}
+use Rattle.fb_inputs.specs.Devices.{ReadsTraces, device_files}
 use Rattle.fb_top.proofs.Arrayed.{is_from}
-use Rattle.fb_texts.proofs.Each.{counted}
 use Rattle.fb_inputs.proofs.Values.{each_of_all}
 
 -- the trace of a device is what is read for it alone

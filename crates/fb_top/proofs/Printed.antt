@@ -1,29 +1,13 @@
 -- Reports that a replay printed, and that a check reads.
-use Rattle.std.proofs.Common.{◌≡◌, ◌⊎◌, ℕ, List, length, Option, Some, None, refl, sym, ap, subst, ◌∙◌, inl, inr}
+use Rattle.fb_top.proofs.Words.{◌≡◌, ◌⊎◌, ℕ, List, length, Option, Some, None, refl, sym, ap, subst, ◌∙◌, inl, inr, IfSome, is_some, Disk}
+use Rattle.fb_top.proofs.Words.{Run, Grammar, report_of, spelled, IsReadBack, Verdict, Yes, DeskView, OutputView, Spill, CheckTerms}
+use Rattle.fb_top.proofs.Words.{ReplayTerms, Outcome, CheckHasCause, IsVerdictOf, IsJudged, TellsReport, AreReadBack, IsRunOf}
+use Rattle.fb_top.proofs.Words.{report_texts, spill_told, all_left, Accepts, Files, ReadsScript, FileNames, HoldAlike, HoldFilesAlike}
+use Rattle.fb_top.proofs.Words.{HoldsLines, HoldsTexts, HoldsWhole, given_text, joined}
 use Rattle.std.proofs.lemmas.List.Folds.{flat_map-map}
-use Rattle.std.specs.Prelude.{IfSome, is_some}
-use Rattle.fb_service.specs.declared.disk.Disk.{Disk}
-use Rattle.fb_rows.specs.declared.run.Run.{Run}
 use Rattle.fb_calls.specs.Reading.{Accepted as Script}
-use Rattle.fb_report.specs.Grammar.{Grammar, report_of, spelled}
-use Rattle.fb_report.specs.Printed.{IsReadBack}
-use Rattle.fb_check.specs.declared.verdict.Verdict.{Verdict}
-use Rattle.fb_check.specs.declared.verdict.Verdict.TheVariants.{Yes}
-use Rattle.fb_desk.specs.View.{DeskView, OutputView}
-use Rattle.fb_desk.specs.declared.desk.Output.TheVariants.{Spill}
-use Rattle.fb_words.specs.Command.{CheckTerms, ReplayTerms}
-use Rattle.fb_top.specs.declared.outcome.Outcome.{Outcome}
 use Rattle.fb_top.specs.declared.outcome.Outcome.TheVariants as outcomes
-use Rattle.fb_top.specs.Causes.{CheckHasCause}
-use Rattle.fb_top.specs.Checked.{IsVerdictOf}
-use Rattle.fb_top.specs.Complete.{IsJudged, TellsReport}
-use Rattle.fb_top.specs.Done.{AreReadBack, IsRunOf, report_texts}
-use Rattle.fb_top.specs.Spilled.{spill_told}
-use Rattle.fb_units.proofs.Lists.{all_left}
-use Rattle.fb_inputs.specs.Read.{Accepts, Files, ReadsScript}
-use Rattle.fb_streams.specs.Names.{FileNames}
-use Rattle.fb_top.specs.Untouched.{HasReplayed, HoldAlike, HoldFilesAlike, HoldsLines, HoldsWritten}
-use Rattle.fb_texts.specs.Written.{HoldsTexts, HoldsWhole, given_text, joined}
+use Rattle.fb_top.specs.Untouched.{HasReplayed, HoldsWritten}
 use Rattle.fb_top.proofs.Alike.{reads_there}
 
 -- what a replay has printed, without puts or with them

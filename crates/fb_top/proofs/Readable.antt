@@ -1,15 +1,10 @@
 -- A full run of accepted files has reports that can be read.
-use Rattle.std.proofs.Common.{ℕ, List, Option, Some, None, sym, subst, arith}
-use Rattle.fb_service.specs.declared.disk.Disk.{Disk}
+use Rattle.fb_top.proofs.Words.{ℕ, List, Option, Some, None, sym, subst, arith, Disk, Run, DeskView, ReplayTerms, ReadsScript}
+use Rattle.fb_top.proofs.Words.{inputs_of_files, key_of, CanBeRead, IsRunOf}
 use Rattle.fb_calls.specs.Reading.{Accepted as Script}
-use Rattle.fb_rows.specs.declared.run.Run.{Run}
 use Rattle.fb_report.specs.Printed.{AreNames}
 use Rattle.fb_check.proofs.PrintingNames.{scripts_name}
 use Rattle.fb_check.proofs.PrintingRows.{can_be_printed}
-use Rattle.fb_desk.specs.View.{DeskView}
-use Rattle.fb_words.specs.Command.{ReplayTerms}
-use Rattle.fb_inputs.specs.Read.{ReadsScript, inputs_of_files, key_of}
-use Rattle.fb_top.specs.Done.{CanBeRead, IsRunOf}
 
 named : (desk : DeskView) (given : Option (List ℕ)) (disk : Disk) (traced : ℕ) (script : Script) → ReadsScript desk given disk traced script
     → AreNames script.names

@@ -1,21 +1,12 @@
 -- The verdict on right reports.
-use Rattle.std.proofs.Common.{◌≡◌, ℕ, List, refl, sym, ap, ◌∙◌, inl, inr}
-use Rattle.std.specs.Prelude.{Ok, Result, map, slice_get}
-use Rattle.fb_rows.specs.declared.run.Run.{Run}
-use Rattle.fb_model.specs.Accepted.{IsAccepted}
-use Rattle.fb_model.specs.FullRun.{IsFull}
-use Rattle.fb_model.specs.Inputs.{Inputs}
+use Rattle.fb_top.proofs.Words.{◌≡◌, ℕ, List, refl, sym, ap, ◌∙◌, inl, inr, slice_get, Run, IsAccepted, IsFull, Inputs, back_lines}
+use Rattle.fb_top.proofs.Words.{DeskView, Grammar, LineFields, report_of, spelled, IsVerdict, Reports, Verdict, Yes, ReadsReport}
+use Rattle.fb_top.proofs.Words.{HoldsLines, joined}
+use Rattle.std.specs.Prelude.{Ok, Result, map}
 use Rattle.fb_model.specs.Known.{OneFullRun}
-use Rattle.fb_report.specs.Back.{back_lines}
-use Rattle.fb_desk.specs.View.{DeskView}
-use Rattle.fb_report.specs.Grammar.{Grammar, LineFields, report_of, spelled}
-use Rattle.fb_check.specs.Verdict.{HasBackLines, HasForeLines, IsVerdict, IsWrong, Reports}
+use Rattle.fb_check.specs.Verdict.{HasBackLines, HasForeLines, IsWrong}
 use Rattle.fb_check.specs.declared.verdict.Mismatch.{Mismatch}
-use Rattle.fb_check.specs.declared.verdict.Verdict.{Verdict}
-use Rattle.fb_check.specs.declared.verdict.Verdict.TheVariants.{Yes, No}
-use Rattle.fb_inputs.specs.Read.{ReadsReport}
-use Rattle.fb_top.specs.Untouched.{HoldsLines}
-use Rattle.fb_texts.specs.Written.{joined}
+use Rattle.fb_check.specs.declared.verdict.Verdict.TheVariants.{No}
 use Rattle.fb_top.proofs.Alike.{held_here}
 
 module _ (one_run : OneFullRun) (inputs : Inputs) (printed : Reports) (run : Run) (accepted : IsAccepted inputs) (full : IsFull inputs run)

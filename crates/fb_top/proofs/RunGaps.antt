@@ -1,23 +1,15 @@
 -- Each gap row of a full run goes with its next foreground row.
-use Rattle.std.proofs.Common.{List, [], ◌∷◌, ◌++◌, map, refl, sym, subst, append_assoc}
-use Rattle.std.specs.List.{AllByRecursion, flat_map}
-use Rattle.fb_service.specs.declared.disk.Disk.{Disk}
+use Rattle.fb_top.proofs.Words.{List, [], ◌∷◌, ◌++◌, map, refl, sym, subst, AllByRecursion, flat_map, Disk, ForeRow, Run, Medium, fore_row}
+use Rattle.fb_top.proofs.Words.{fore_rows, medium_of, Decision, IsFull, Inputs, requests, Served, decisions_follow, services, Request}
+use Rattle.std.proofs.Common.{append_assoc}
 use Rattle.fb_rows.specs.declared.back.BackRow.{BackRow}
 use Rattle.fb_rows.specs.declared.back.BackRow.TheVariants.{Gap as BackGap, Idle as BackIdle}
-use Rattle.fb_rows.specs.declared.fore.ForeRow.{ForeRow}
-use Rattle.fb_rows.specs.declared.run.Run.{Run}
-use Rattle.fb_model.specs.Content.{Medium, fore_row, fore_rows, medium_of}
-use Rattle.fb_model.specs.Decisions.{Decision, Act, serving, idling, ending}
-use Rattle.fb_model.specs.FullRun.{IsFull}
+use Rattle.fb_model.specs.Decisions.{Act, serving, idling, ending}
 use Rattle.fb_model.specs.History.{Past}
-use Rattle.fb_model.specs.Inputs.{Inputs, requests}
-use Rattle.fb_model.specs.PlainReplay.{Served}
 use Rattle.fb_model.specs.SoundRun.{HasPlan, IsPlanned, IsTested}
 use Rattle.fb_model.specs.Steps.{AtEach, Step, decisions_in, history, opening, step_rows, past_after, delivery_rows}
-use Rattle.fb_model.proofs.Chain.{decisions_follow, services}
 use Rattle.fb_model.proofs.QuietRows.{IsQuiet, IsQuietStep, quiet_step, tasks_quiet}
 use Rattle.fb_units.proofs.Each.{all_any}
-use Rattle.fb_units.specs.declared.types.Request.{Request}
 use Rattle.fb_bgwrite.specs.Spilled.{AreGaps}
 
 -- rows that are no gaps stand before others

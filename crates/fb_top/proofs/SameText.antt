@@ -1,12 +1,8 @@
 -- When two runs have the same foreground text.
-use Rattle.std.proofs.Common.{◌≡◌, ℕ, List, [], ◌∷◌, ◌++◌, length, map, ap, ◌∙◌}
-use Rattle.std.specs.Prelude.{decimal, codes}
-use Rattle.fb_rows.specs.declared.fore.ForeRow.{ForeRow}
-use Rattle.fb_rows.specs.declared.run.Run.{Run}
-use Rattle.fb_report.specs.declared.bytes.Bytes.{Bytes}
-use Rattle.fb_report.specs.Fore.{fore_first, fore_line, fore_lines, fore_text}
+use Rattle.fb_top.proofs.Words.{◌≡◌, ℕ, List, [], ◌∷◌, ◌++◌, length, map, ap, ◌∙◌, decimal, codes, ForeRow, Run, Bytes, fore_lines}
+use Rattle.fb_top.proofs.Words.{fore_text, joined}
+use Rattle.fb_report.specs.Fore.{fore_first, fore_line}
 use Rattle.fb_report.specs.Lines.{line_of}
-use Rattle.fb_texts.specs.Written.{joined}
 
 -- the lines of these rows
 unfoldable lines_by : ℕ → Bytes → List ForeRow → ℕ → List (List ℕ)

@@ -1,31 +1,15 @@
 -- What a replay writes, and why it has its answer.
-use Rattle.std.proofs.Common.{◌≡◌, ◌≢◌, ℕ, List, Option, Result, Some, None, refl, sym, subst, inr}
-use Rattle.std.specs.Prelude.{IfSome, is_some}
-use Rattle.std.specs.List.{AllByRecursion}
-use Rattle.fb_units.proofs.Lists.{all_append}
-use Rattle.fb_rows.specs.declared.run.Run.{Run}
-use Rattle.fb_model.specs.FullRun.{IsFull}
+use Rattle.fb_top.proofs.Words.{◌≡◌, ◌≢◌, ℕ, List, Option, Result, Some, None, refl, sym, subst, inr, IfSome, is_some, AllByRecursion}
+use Rattle.fb_top.proofs.Words.{all_append, Run, IsFull, SpillRun, DeskView, Puts, Output, Fore, Back, Spill, ReplayTerms, RunsOut, Files}
+use Rattle.fb_top.proofs.Words.{inputs_of_files, key_of, replay_names, TextsError, StopsTexts, Text, WritesAll, WritesTexts, given_text}
+use Rattle.fb_top.proofs.Words.{all_given, stopped_sooner, stops_texts, then_texts, writes_all, HasCause, AreReadBack, CanBeRead, IsRunOf}
+use Rattle.fb_top.proofs.Words.{back_told, report_texts, unwritten, IsReplayCut, replay_texts, spill_told, done_as, ends_at}
 use Rattle.fb_puts.specs.Reading.{Accepted as PutsRead}
-use Rattle.fb_bgwrite.specs.declared.items.SpillRun.{SpillRun}
-use Rattle.fb_desk.specs.View.{DeskView}
-use Rattle.fb_desk.specs.declared.desk.Input.TheVariants.{Puts}
-use Rattle.fb_desk.specs.declared.desk.Output.{Output}
-use Rattle.fb_desk.specs.declared.desk.Output.TheVariants.{Fore, Back, Spill}
-use Rattle.fb_words.specs.Command.{ReplayTerms}
-use Rattle.fb_inputs.specs.Causes.{RunsOut}
-use Rattle.fb_inputs.specs.Read.{AcceptsPuts, Files, inputs_of_files, key_of}
-use Rattle.fb_streams.specs.Names.{replay_names}
-use Rattle.fb_texts.specs.declared.error.TextsError.{TextsError}
+use Rattle.fb_inputs.specs.Read.{AcceptsPuts}
 use Rattle.fb_texts.specs.declared.error.TextsError.TheVariants as faults
-use Rattle.fb_texts.specs.Written.{StopsTexts, Text, WritesAll, WritesTexts, given_text}
-use Rattle.fb_texts.proofs.Texts.{all_given, stopped_sooner, stops_texts, then_texts, writes_all}
-use Rattle.fb_top.specs.Causes.{HasCause}
-use Rattle.fb_top.specs.Done.{AreReadBack, CanBeRead, IsRunOf, back_told, report_texts}
-use Rattle.fb_top.specs.Ends.{unwritten}
-use Rattle.fb_top.specs.Spilled.{IsReplayCut, IsSpillOf, WritesGiven, replay_texts, spill_told}
-use Rattle.fb_top.specs.Taken.{TakesReplay, done_as}
+use Rattle.fb_top.specs.Spilled.{IsSpillOf, WritesGiven}
+use Rattle.fb_top.specs.Taken.{TakesReplay}
 use Rattle.fb_top.proofs.Readable.{run_can_be_read}
-use Rattle.fb_inputs.proofs.Account.{ends_at}
 
 -- what holds of a thing that is given
 pub holds_of : {X : Type 0} (P : X → Type 0) (given : Option X) (x : X) → given ≡ Some x → IfSome given P → P x

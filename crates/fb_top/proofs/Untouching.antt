@@ -1,25 +1,19 @@
 -- A reserve that touches nothing that the trace and the script ask for touches no foreground row of a full run.
-use Rattle.std.proofs.Common.{◌≡◌, ℕ, ◌+◌, List, [], ◌∷◌, length, map, false, sym, subst, inl, inr}
+use Rattle.fb_top.proofs.Words.{◌≡◌, ℕ, ◌+◌, List, [], ◌∷◌, length, map, false, sym, subst, inl, inr, AllByRecursion, flat_map, cases_Bool}
+use Rattle.fb_top.proofs.Words.{all_append, all_left, Request, Disk, ForeRow, Run, Medium, fore_row, fore_rows, medium_of, Decision}
+use Rattle.fb_top.proofs.Words.{IsFull, Inputs, requests, Served, decisions_follow, services}
 use Rattle.std.specs.Prelude.{nat_le}
-use Rattle.std.specs.List.{AllByRecursion, flat_map, fold}
-use Rattle.std.proofs.lemmas.Bool.{cases_Bool}
-use Rattle.fb_units.proofs.Lists.{all_append, all_left, all_right}
-use Rattle.fb_units.specs.declared.types.Request.{Request}
+use Rattle.std.specs.List.{fold}
+use Rattle.fb_units.proofs.Lists.{all_right}
 use Rattle.fb_units.specs.declared.types.Track.{Track}
-use Rattle.fb_service.specs.declared.disk.Disk.{Disk}
 use Rattle.fb_script.specs.Allowed.{terms_of}
 use Rattle.fb_script.specs.declared.call.Action.{Action}
 use Rattle.fb_script.specs.declared.call.Action.TheVariants.{Promote}
 use Rattle.fb_script.specs.declared.call.Call.{Call}
-use Rattle.fb_rows.specs.declared.fore.ForeRow.{ForeRow}
-use Rattle.fb_rows.specs.declared.run.Run.{Run}
-use Rattle.fb_model.specs.Content.{Medium, fore_row, fore_rows, medium_of}
-use Rattle.fb_model.specs.Decisions.{Decision, serves, idles, ends, decisions}
+use Rattle.fb_model.specs.Decisions.{serves, idles, ends, decisions}
 use Rattle.fb_model.specs.Foreground.{behind, promoted_from, read_of}
-use Rattle.fb_model.specs.FullRun.{IsFull}
-use Rattle.fb_model.specs.Inputs.{Inputs, requests}
-use Rattle.fb_model.specs.PlainReplay.{Served, finish, first_track, last_track}
-use Rattle.fb_model.proofs.Chain.{Follow, decisions_follow, services}
+use Rattle.fb_model.specs.PlainReplay.{finish, first_track, last_track}
+use Rattle.fb_model.proofs.Chain.{Follow}
 use Rattle.fb_puts.specs.Asked.{asked, ranges_in, request_range}
 use Rattle.fb_puts.specs.Ranges.{share}
 use Rattle.fb_bgwrite.specs.Spilled.{fore_ranges}

@@ -1,15 +1,9 @@
 -- Changes of the blocks of a task from one number up to another.
-use Rattle.std.proofs.Common.{◌≡◌, ℕ, ◌+◌, ◌*◌, ◌/◌, ◌≤◌, inl, inr, ◌==◌, ◌||◌, List, true, false, length, filter, slice_get, refl, ap, sym}
-use Rattle.std.proofs.Common.{◌∙◌, arith, subst}
-use Rattle.std.proofs.lemmas.Bool.{cases_Bool, cases_lt, or_right}
-use Rattle.std.proofs.lemmas.Bool.Decides.{nat_tests}
-use Rattle.std.proofs.lemmas.Option.{slice_get_within}
-use Rattle.fb_wanted.specs.declared.block.Change.{Change}
-use Rattle.fb_wanted.specs.declared.block.Entry.{Entry}
-use Rattle.fb_wanted.specs.States.{after, entry_after, state_after}
-use Rattle.fb_wanted.specs.Counting.{is_of, is_in_group}
-use Rattle.fb_wanted.specs.Numbering.{AreInOrder, blocks_of}
-use Rattle.fb_wanted.specs.LookUp.{is_of_task, lbns, AreChanged, IsStable, LeavesAll, change_nth}
+use Rattle.fb_wanted.proofs.Words.{◌≡◌, ℕ, ◌+◌, ◌*◌, ◌/◌, ◌≤◌, inl, inr, ◌==◌, ◌||◌, List, true, false, length, filter, slice_get, refl}
+use Rattle.fb_wanted.proofs.Words.{ap, sym, ◌∙◌, arith, subst, cases_Bool, cases_lt, nat_tests, slice_get_within, Change, Entry, after}
+use Rattle.fb_wanted.proofs.Words.{entry_after, state_after, is_of, is_in_group, AreInOrder, blocks_of, is_of_task, lbns, AreChanged}
+use Rattle.fb_wanted.proofs.Words.{IsStable, LeavesAll, change_nth}
+use Rattle.std.proofs.lemmas.Bool.{or_right}
 use Rattle.fb_wanted.proofs.Standing.{among}
 use Rattle.fb_wanted.proofs.Numbers.{number_at}
 use Rattle.fb_wanted.proofs.OfTask.{own_after, others_after}

@@ -1,14 +1,7 @@
 -- Changes of those blocks of a task whose numbers are chosen.
-use Rattle.std.proofs.Common.{◌≡◌, ℕ, zero, suc, ◌⊎◌, inl, inr, ◌==◌, ◌||◌, List, [], ◌∷◌, Bool, true, false, Some, if◌then◌else◌, filter}
-use Rattle.std.proofs.Common.{map, slice_get, refl, ap, sym, ◌∙◌, arith}
-use Rattle.std.proofs.lemmas.Bool.{cases_Bool}
-use Rattle.std.proofs.lemmas.Bool.Decides.{nat_tests}
-use Rattle.fb_wanted.specs.declared.block.Change.{Change}
-use Rattle.fb_wanted.specs.declared.block.Entry.{Entry}
-use Rattle.fb_wanted.specs.declared.block.State.{State}
-use Rattle.fb_wanted.specs.States.{after, entry_after}
-use Rattle.fb_wanted.specs.Numbering.{AreInOrder, blocks_of}
-use Rattle.fb_wanted.specs.LookUp.{is_of_task, lbns, IsStable, changed_where, change_nth}
+use Rattle.fb_wanted.proofs.Words.{◌≡◌, ℕ, zero, suc, ◌⊎◌, inl, inr, ◌==◌, ◌||◌, List, [], ◌∷◌, Bool, true, false, Some, if◌then◌else◌}
+use Rattle.fb_wanted.proofs.Words.{filter, map, slice_get, refl, ap, sym, ◌∙◌, arith, cases_Bool, nat_tests, Change, Entry, State, after}
+use Rattle.fb_wanted.proofs.Words.{entry_after, AreInOrder, blocks_of, is_of_task, lbns, IsStable, changed_where, change_nth}
 use Rattle.fb_wanted.proofs.Standing.{nth_alone}
 use Rattle.fb_wanted.proofs.Numbers.{number_at}
 use Rattle.fb_wanted.proofs.OfTask.{others_after}

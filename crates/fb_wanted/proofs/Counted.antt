@@ -1,18 +1,9 @@
 -- The counts of the blocks that pass a test, such as those of a task, as a block is added or comes into another state.
-use Rattle.std.proofs.Common.{◌≡◌, ℕ, ◌+◌, ◌≤◌, ◌==◌, inl, inr, List, [], ◌∷◌, ◌++◌, true, false, Bool, length, length-append, filter}
-use Rattle.std.proofs.Common.{slice_get, Some, refl, ap, ◌∙◌, arith}
-use Rattle.std.proofs.lemmas.Bool.{cases_Bool}
-use Rattle.std.proofs.lemmas.List.Elements.{filter-append}
-use Rattle.fb_units.proofs.Counts.{filter-le}
-use Rattle.fb_wanted.specs.declared.block.Block.{Block}
-use Rattle.fb_wanted.specs.declared.block.Counts.{Counts}
-use Rattle.fb_wanted.specs.declared.block.Entry.{Entry}
-use Rattle.fb_wanted.specs.declared.block.State.{State}
-use Rattle.fb_wanted.specs.declared.block.State.TheVariants.{Wanted, Suspended, Delivered, Aborted}
-use Rattle.fb_wanted.specs.declared.block.Change.TheVariants.{Abort}
-use Rattle.fb_wanted.specs.States.{after, shares, is_open, is_abortable, is_delivered, is_aborted}
-use Rattle.fb_wanted.specs.Counting.{counted, counts_of, no_counts, sum_of, recounted, AreNoMore}
-use Rattle.fb_wanted.specs.LookUp.{with_state}
+use Rattle.fb_wanted.proofs.Words.{◌≡◌, ℕ, ◌+◌, ◌≤◌, ◌==◌, inl, inr, List, [], ◌∷◌, ◌++◌, true, false, Bool, length, length-append, filter}
+use Rattle.fb_wanted.proofs.Words.{slice_get, Some, refl, ap, ◌∙◌, arith, cases_Bool, filter-append, filter-le, Block, Counts, Entry}
+use Rattle.fb_wanted.proofs.Words.{State, Wanted, Suspended, Delivered, Aborted, Abort, after, shares, is_open, is_delivered, is_aborted}
+use Rattle.fb_wanted.proofs.Words.{counted, counts_of, no_counts, sum_of, recounted, AreNoMore, with_state}
+use Rattle.fb_wanted.specs.States.{is_abortable}
 use Rattle.fb_wanted.proofs.Sums.{sum-with_state, sum_at}
 
 -- counts are equal if each of them is

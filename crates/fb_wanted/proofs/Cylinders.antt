@@ -1,11 +1,7 @@
 -- The upper bounds on the weights of tracks, by cylinder and by band.
-use Rattle.std.proofs.Common.{◌≡◌, ℕ, ◌/◌, ◌<◌, ◌≤◌, max, inl, inr, List, false, length, get_or, set, refl, ap, sym, ◌∙◌, arith, subst}
-use Rattle.std.proofs.lemmas.Bool.{cases_eq}
-use Rattle.std.proofs.lemmas.Grind.{get_or-set_at}
-use Rattle.std.proofs.lemmas.List.{get_or-set_other, length-set}
-use Rattle.fb_units.specs.declared.types.Track.{Track}
-use Rattle.fb_units.specs.Tracks.{same_track}
-use Rattle.fb_wanted.specs.LookUp.{OnTrack, track_at, weight_kept, AreGreatest, ArePeaks, IsChanged}
+use Rattle.fb_wanted.proofs.Words.{◌≡◌, ℕ, ◌/◌, ◌<◌, ◌≤◌, max, inl, inr, List, false, length, get_or, set, refl, ap, sym, ◌∙◌, arith}
+use Rattle.fb_wanted.proofs.Words.{subst, cases_eq, get_or-set_at, get_or-set_other, length-set, Track, same_track, OnTrack, track_at}
+use Rattle.fb_wanted.proofs.Words.{weight_kept, AreGreatest, ArePeaks, IsChanged}
 
 -- the bounds hold too with room for more cylinders
 pub greatest_still : (tracks : List (List OnTrack)) (was is : List ℕ) → AreGreatest tracks was → ((c : ℕ) → get_or is c 0 ≡ get_or was c 0)

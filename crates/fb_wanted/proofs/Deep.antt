@@ -1,23 +1,11 @@
 -- The upper bounds on the depth of a sector, by band.
-use Rattle.std.proofs.Common.{◌≡◌, ℕ, ◌+◌, ◌/◌, ◌<◌, ◌≤◌, inl, inr, ◌==◌, List, [], ◌∷◌, ◌++◌, Some, Bool, nat_le, true, false}
-use Rattle.std.proofs.Common.{if◌then◌else◌, length, length-append, filter, slice_get, get_or, set, refl, ap, sym, ◌∙◌, arith, subst}
-use Rattle.std.specs.List.{sum_by}
-use Rattle.std.proofs.lemmas.Bool.{cases_Bool}
-use Rattle.std.proofs.lemmas.Bool.Decides.{nat_tests}
-use Rattle.std.proofs.lemmas.List.Elements.{filter-append}
-use Rattle.std.proofs.lemmas.List.Sums.{sum_by-append}
-use Rattle.fb_units.proofs.Changed.{old_or_last}
-use Rattle.fb_units.proofs.Tracks.{same_tracks}
-use Rattle.fb_units.specs.declared.types.Track.{Track}
-use Rattle.fb_units.specs.Tracks.{same_track}
-use Rattle.fb_wanted.specs.declared.block.Block.{Block}
-use Rattle.fb_wanted.specs.declared.block.Entry.{Entry}
-use Rattle.fb_wanted.specs.declared.block.State.{State}
-use Rattle.fb_wanted.specs.declared.depths.Depth.{Depth}
-use Rattle.fb_wanted.specs.Numbering.{blocks_of}
+use Rattle.fb_wanted.proofs.Words.{◌≡◌, ℕ, ◌+◌, ◌/◌, ◌<◌, ◌≤◌, inl, inr, ◌==◌, List, [], ◌∷◌, ◌++◌, Some, Bool, true, false, if◌then◌else◌}
+use Rattle.fb_wanted.proofs.Words.{length, length-append, filter, slice_get, get_or, set, refl, ap, sym, ◌∙◌, arith, subst, sum_by}
+use Rattle.fb_wanted.proofs.Words.{cases_Bool, nat_tests, filter-append, sum_by-append, old_or_last, same_tracks, Track, same_track, Block}
+use Rattle.fb_wanted.proofs.Words.{Entry, State, Depth, blocks_of, depth_at, band_depth, no_depth, AreDeep, is_of_track, with_state}
+use Rattle.std.proofs.Common.{nat_le}
 use Rattle.fb_wanted.specs.Tracks.{band_of}
-use Rattle.fb_wanted.specs.Depth.{is_in, weight_on, depth_at, band_depth, no_depth, spare_for, deepened, IsDeep, AreDeep}
-use Rattle.fb_wanted.specs.LookUp.{is_of_track, with_state}
+use Rattle.fb_wanted.specs.Depth.{is_in, weight_on, spare_for, deepened, IsDeep}
 use Rattle.fb_wanted.proofs.Sums.{sum-with_state, sum-le}
 use Rattle.fb_wanted.proofs.Numbers.{blocks-more}
 use Rattle.fb_wanted.proofs.Standing.{length-with_state, items-with_state, blocks-with_state}

@@ -1,13 +1,10 @@
 -- Elements of lists that are written, cut or made longer.
-use Rattle.std.proofs.Common.{◌≡◌, ℕ, zero, suc, ◌+◌, ◌-◌, ◌<◌, List, [], ◌∷◌, ◌++◌, Some, length, set, take, slice_get, get_or, refl, ap}
-use Rattle.std.proofs.Common.{◌∙◌, arith}
+use Rattle.fb_wanted.proofs.Words.{◌≡◌, ℕ, zero, suc, ◌+◌, ◌-◌, ◌<◌, List, [], ◌∷◌, ◌++◌, Some, length, set, slice_get, get_or, refl, ap}
+use Rattle.fb_wanted.proofs.Words.{◌∙◌, arith, same_Some, none-some, slice_get-get_or, Entry, State, with_state}
+use Rattle.std.proofs.Common.{take}
 use Rattle.std.specs.List.{swap_remove}
-use Rattle.std.proofs.lemmas.Option.{same_Some, none-some, slice_get-get_or}
 use Rattle.fb_units.proofs.Lists.{append_at}
 use Rattle.fb_units.proofs.Parts.{get_take}
-use Rattle.fb_wanted.specs.declared.block.Entry.{Entry}
-use Rattle.fb_wanted.specs.declared.block.State.{State}
-use Rattle.fb_wanted.specs.LookUp.{with_state}
 
 module _ {X : Type 0} where
   -- an element is there when one more follows

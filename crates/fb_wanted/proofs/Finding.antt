@@ -1,17 +1,9 @@
 -- The blocks of a task that share a sector with a range lie in streaks that begin near it.
-use Rattle.std.proofs.Common.{◌≡◌, ℕ, ◌+◌, ◌-◌, ◌*◌, ◌^◌, ◌<◌, ◌≤◌, ◌⊎◌, inl, inr, List, Bool, true, Some, length, slice_get, ap, sym}
-use Rattle.std.proofs.Common.{◌∙◌, arith}
-use Rattle.std.proofs.lemmas.Bool.{cases_Bool, cases_eq, cases_lt}
-use Rattle.std.proofs.lemmas.Bool.Decides.{nat_tests}
-use Rattle.std.proofs.lemmas.Option.{slice_get_within}
-use Rattle.fb_units.proofs.Lists.{element_at}
-use Rattle.fb_wanted.specs.declared.block.Change.{Change}
-use Rattle.fb_wanted.specs.declared.block.Entry.{Entry}
-use Rattle.fb_wanted.specs.declared.streaks.Streak.{Streak}
-use Rattle.fb_wanted.specs.States.{shares, after}
-use Rattle.fb_wanted.specs.Numbering.{AreInOrder, blocks_of}
-use Rattle.fb_wanted.specs.LookUp.{is_of_task, lbns, region_of, IsUpTo, IsInStreak, BeginsStreak, AreShort, IsWithin}
-use Rattle.fb_wanted.specs.LookUp.{changed_where}
+use Rattle.fb_wanted.proofs.Words.{◌≡◌, ℕ, ◌+◌, ◌-◌, ◌*◌, ◌^◌, ◌<◌, ◌≤◌, ◌⊎◌, inl, inr, List, Bool, true, Some, length, slice_get, ap, sym}
+use Rattle.fb_wanted.proofs.Words.{◌∙◌, arith, cases_Bool, cases_eq, cases_lt, nat_tests, slice_get_within, element_at, Change, Entry}
+use Rattle.fb_wanted.proofs.Words.{Streak, shares, after, AreInOrder, blocks_of, is_of_task, lbns, region_of, IsUpTo, IsInStreak}
+use Rattle.fb_wanted.proofs.Words.{BeginsStreak, AreShort, changed_where}
+use Rattle.fb_wanted.specs.LookUp.{IsWithin}
 use Rattle.fb_wanted.proofs.Standing.{among}
 use Rattle.fb_wanted.proofs.Numbers.{number_at}
 use Rattle.fb_wanted.proofs.OfTask.{own_after, others_after}

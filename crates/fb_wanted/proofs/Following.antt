@@ -1,9 +1,8 @@
 -- The next track with a block in the look-up.
-use Rattle.std.proofs.Common.{◌≡◌, ℕ, ◌<◌, ◌≤◌, inl, inr, List, [], length, get_or, refl, sym, arith, subst}
-use Rattle.std.proofs.lemmas.Bool.{cases_lt}
-use Rattle.fb_units.specs.declared.types.Track.{Track}
+use Rattle.fb_wanted.proofs.Words.{◌≡◌, ℕ, ◌<◌, ◌≤◌, inl, inr, List, [], length, get_or, refl, sym, arith, subst, cases_lt, Track, OnTrack}
+use Rattle.fb_wanted.proofs.Words.{no_block_on, track_at, IsNextTrack, NoneIsBetween}
 use Rattle.fb_wanted.specs.Tracks.{IsNotAfter}
-use Rattle.fb_wanted.specs.LookUp.{OnTrack, no_block_on, track_at, first_track, IsNextHead, IsNextTrack, NoneIsBetween}
+use Rattle.fb_wanted.specs.LookUp.{first_track, IsNextHead}
 
 -- the first track of a cylinder doesn't come after those on this cylinder and on later ones
 from_cylinder : (start : ℕ) (t : Track) → start ≤ t.cylinder → IsNotAfter (first_track start) t

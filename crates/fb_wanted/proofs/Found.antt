@@ -1,20 +1,9 @@
 -- Offers and their blocks, each found by its index among all registered ones.
-use Rattle.std.proofs.Common.{◌≡◌, ℕ, suc, ◌*◌, ◌<◌, List, [], ◌∷◌, ◌++◌, Some, length, option_map, slice_get, get_or, refl, ap, sym}
-use Rattle.std.proofs.Common.{◌∙◌, arith}
-use Rattle.std.specs.List.{sum_by}
-use Rattle.std.proofs.lemmas.List.{length-map}
-use Rattle.std.proofs.lemmas.List.Sums.{sum_by-cons}
-use Rattle.std.proofs.lemmas.Option.{same_Some, slice_get_within, slice_get-get_or, slice_get-map, get_or_from_slice_get}
-use Rattle.fb_units.proofs.Tracks.{same_tracks}
+use Rattle.fb_wanted.proofs.Words.{◌≡◌, ℕ, suc, ◌*◌, ◌<◌, List, [], ◌∷◌, ◌++◌, Some, length, option_map, slice_get, get_or, refl, ap, sym}
+use Rattle.fb_wanted.proofs.Words.{◌∙◌, arith, sum_by, length-map, sum_by-cons, same_Some, slice_get_within, slice_get-get_or}
+use Rattle.fb_wanted.proofs.Words.{slice_get-map, get_or_from_slice_get, same_tracks, Track, Block, Entry, Offer, blocks_of, AreOffers}
+use Rattle.fb_wanted.proofs.Words.{AreSameBlocks, AreFound, offer_of, offered_blocks, no_block, on_track, wanted_of, AreOffered}
 use Rattle.fb_units.specs.declared.types.Sweep.{Sweep}
-use Rattle.fb_units.specs.declared.types.Track.{Track}
-use Rattle.fb_wanted.specs.declared.block.Block.{Block}
-use Rattle.fb_wanted.specs.declared.block.Entry.{Entry}
-use Rattle.fb_wanted.specs.declared.offer.Offer.{Offer}
-use Rattle.fb_wanted.specs.Numbering.{blocks_of}
-use Rattle.fb_wanted.specs.Offers.{AreOffers, AreSameBlocks, AreFound, offer_of, offered_blocks, no_block}
-use Rattle.fb_wanted.specs.States.{on_track, wanted_of}
-use Rattle.fb_wanted.specs.LookUp.{AreOffered}
 use Rattle.fb_wanted.proofs.Numbers.{block_there, blocks-more}
 use Rattle.fb_wanted.proofs.Elements.{at_left}
 

@@ -1,15 +1,8 @@
 -- The counts that are kept of groups, as a block is added or comes into another state.
-use Rattle.std.proofs.Common.{◌≡◌, ℕ, ◌<◌, ◌≤◌, ◌/◌, inl, inr, List, [], ◌∷◌, ◌++◌, Some, true, length, slice_get, get_or, refl, ap, ◌∙◌, arith}
-use Rattle.std.proofs.lemmas.Bool.{cases_Bool, cases_lt}
-use Rattle.std.proofs.lemmas.Bool.Decides.{nat_tests}
-use Rattle.std.proofs.lemmas.List.{get_or_past}
-use Rattle.fb_wanted.specs.declared.block.Block.{Block}
-use Rattle.fb_wanted.specs.declared.block.Counts.{Counts}
-use Rattle.fb_wanted.specs.declared.block.Entry.{Entry}
-use Rattle.fb_wanted.specs.declared.block.State.{State}
-use Rattle.fb_wanted.specs.Counting.{counted, counts_of, is_of, is_in_group, no_counts, sum_of, AreNoMore, Fit}
-use Rattle.fb_wanted.specs.Groups.{group_at, AreGrouped, IsGroupThere, IsRecounted}
-use Rattle.fb_wanted.specs.LookUp.{with_state}
+use Rattle.fb_wanted.proofs.Words.{◌≡◌, ℕ, ◌<◌, ◌≤◌, ◌/◌, inl, inr, List, [], ◌∷◌, ◌++◌, Some, true, length, slice_get, get_or, refl, ap}
+use Rattle.fb_wanted.proofs.Words.{◌∙◌, arith, cases_Bool, cases_lt, nat_tests, get_or_past, Block, Counts, Entry, State, counted}
+use Rattle.fb_wanted.proofs.Words.{counts_of, is_of, is_in_group, no_counts, sum_of, AreNoMore, Fit, AreGrouped, with_state}
+use Rattle.fb_wanted.specs.Groups.{group_at, IsGroupThere, IsRecounted}
 use Rattle.fb_wanted.proofs.Counted.{counts-few, counts_alike, counts_at, counts-grown, counts-grown_other, counts-with_state, counts-with_other}
 
 in_its_group : (b : Block) → is_in_group b.task (b.index / 512) b ≡ true

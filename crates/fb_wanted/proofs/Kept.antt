@@ -1,21 +1,11 @@
 -- The indexes beside the list of registered blocks, after a block is registered or changes its state.
-use Rattle.std.proofs.Common.{◌≡◌, ℕ, ◌+◌, ◌-◌, ◌<◌, ◌≤◌, inl, inr, ◌==◌, List, [], ◌∷◌, ◌++◌, Some, true, false, length, length-append}
-use Rattle.std.proofs.Common.{slice_get, get_or, set, refl, ap, sym, ◌∙◌, arith, subst}
-use Rattle.std.proofs.lemmas.Bool.{cases_Bool}
-use Rattle.std.proofs.lemmas.Bool.Decides.{nat_tests}
-use Rattle.fb_units.proofs.Tracks.{same_tracks}
-use Rattle.fb_units.specs.declared.types.Track.{Track}
-use Rattle.fb_units.specs.Tracks.{same_track}
-use Rattle.fb_wanted.specs.declared.block.Entry.{Entry}
-use Rattle.fb_wanted.specs.declared.block.State.{State}
-use Rattle.fb_wanted.specs.declared.block.Counts.{Counts}
-use Rattle.fb_wanted.specs.declared.tasks.OfTask.{OfTask}
-use Rattle.fb_wanted.specs.Counting.{counts_of, is_of, no_counts, recounted}
-use Rattle.fb_wanted.specs.Numbering.{AreInOrder, AreSmall, blocks_of, registered_count}
-use Rattle.fb_wanted.specs.States.{is_wanted}
-use Rattle.fb_wanted.specs.Tracks.{wanted_weight}
-use Rattle.fb_wanted.specs.LookUp.{OnTrack, is_of_task, is_of_track, indexes_of, grown, reweighed, no_blocks, grown_task, counted_anew}
-use Rattle.fb_wanted.specs.LookUp.{kept_of_task, track_at, weight_kept, offers_at, IsKept, IsChanged, IsTaskChanged, with_state}
+use Rattle.fb_wanted.proofs.Words.{◌≡◌, ℕ, ◌+◌, ◌-◌, ◌<◌, ◌≤◌, inl, inr, ◌==◌, List, [], ◌∷◌, ◌++◌, Some, true, false, length}
+use Rattle.fb_wanted.proofs.Words.{length-append, slice_get, get_or, set, refl, ap, sym, ◌∙◌, arith, subst, cases_Bool, nat_tests}
+use Rattle.fb_wanted.proofs.Words.{same_tracks, Track, same_track, Entry, State, Counts, OfTask, counts_of, is_of, no_counts, recounted}
+use Rattle.fb_wanted.proofs.Words.{AreInOrder, AreSmall, blocks_of, registered_count, is_wanted, wanted_weight, OnTrack, is_of_task}
+use Rattle.fb_wanted.proofs.Words.{is_of_track, indexes_of, grown, reweighed, no_blocks, grown_task, counted_anew, track_at, weight_kept}
+use Rattle.fb_wanted.proofs.Words.{offers_at, IsKept, IsChanged, IsTaskChanged, with_state}
+use Rattle.fb_wanted.specs.LookUp.{kept_of_task}
 use Rattle.fb_wanted.proofs.Standing.{length-with_state, items-with_state, blocks-with_state, indexes_of-with_state, indexes_of-more_yes}
 use Rattle.fb_wanted.proofs.Standing.{indexes_of-more_no}
 use Rattle.fb_wanted.proofs.Numbers.{numbered-more, small-more}

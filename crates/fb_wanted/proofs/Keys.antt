@@ -1,11 +1,6 @@
 -- What is noted of streaks: sets of keys, with one more or one less, and the order of keys.
-use Rattle.std.proofs.Common.{◌≡◌, ℕ, ◌⊎◌, inl, inr, Bool, true, false, if◌then◌else◌, refl, arith}
-use Rattle.std.specs.BTreeMap.{is_at}
-use Rattle.std.specs.Ordering.{is_gt}
-use Rattle.std.proofs.lemmas.Bool.{cases_lt}
-use Rattle.std.proofs.lemmas.Bool.Decides.{nat_tests}
-use Rattle.fb_wanted.specs.declared.streaks.Streak.{Streak}
-use Rattle.fb_wanted.specs.LookUp.{key_of, streak_cmp, IsUpTo}
+use Rattle.fb_wanted.proofs.Words.{◌≡◌, ℕ, ◌⊎◌, inl, inr, Bool, true, false, if◌then◌else◌, refl, arith, is_at, is_gt, cases_lt, nat_tests}
+use Rattle.fb_wanted.proofs.Words.{Streak, key_of, streak_cmp, IsUpTo}
 
 pub still : (new old : Bool) → old ≡ true → (if new then true else old) ≡ true
 still true old h = refl

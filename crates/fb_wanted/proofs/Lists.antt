@@ -1,12 +1,6 @@
 -- Lists of lists.
-use Rattle.std.proofs.Common.{◌≡◌, ℕ, inl, inr, ◌==◌, List, [], ◌∷◌, true, get_or, refl, ap, ◌∙◌, arith}
-use Rattle.std.proofs.lemmas.Bool.{cases_Bool}
-use Rattle.std.proofs.lemmas.Bool.Decides.{nat_tests}
-use Rattle.fb_wanted.specs.declared.block.Counts.{Counts}
-use Rattle.fb_wanted.specs.declared.block.Entry.{Entry}
-use Rattle.fb_wanted.specs.declared.tasks.OfTask.{OfTask}
-use Rattle.fb_wanted.specs.Counting.{counts_of, no_counts}
-use Rattle.fb_wanted.specs.LookUp.{IsTaskChanged, no_blocks, joined, counted_anew, grown_task}
+use Rattle.fb_wanted.proofs.Words.{◌≡◌, ℕ, inl, inr, ◌==◌, List, [], ◌∷◌, true, get_or, refl, ap, ◌∙◌, arith, cases_Bool, nat_tests}
+use Rattle.fb_wanted.proofs.Words.{Counts, Entry, OfTask, counts_of, no_counts, IsTaskChanged, no_blocks, joined, counted_anew, grown_task}
 
 -- if the index that was added last to a task is removed again, all tasks are as before
 pub taken_back : (old one two : List OfTask) (n index : ℕ)

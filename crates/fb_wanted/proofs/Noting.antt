@@ -1,14 +1,8 @@
 -- What is noted of streaks as a block is registered.
-use Rattle.std.proofs.Common.{◌≡◌, ℕ, suc, ◌-◌, ◌<◌, ◌≤◌, ◌⊎◌, inl, inr, ◌==◌, List, [], ◌∷◌, ◌++◌, Bool, true, false, Some, length, filter}
-use Rattle.std.proofs.Common.{slice_get, refl, ap, sym, ◌∙◌, arith, subst}
-use Rattle.std.specs.BTreeSet.{BTreeSet, contains}
-use Rattle.std.proofs.lemmas.Bool.{cases_Bool, true≢false}
-use Rattle.std.proofs.lemmas.Bool.Decides.{nat_tests}
-use Rattle.std.proofs.lemmas.Option.{slice_get_within}
-use Rattle.fb_units.proofs.Changed.{old_or_last}
-use Rattle.fb_wanted.specs.declared.block.Entry.{Entry}
-use Rattle.fb_wanted.specs.declared.streaks.Streak.{Streak}
-use Rattle.fb_wanted.specs.LookUp.{is_of_task, lbns, region_of, key_of, streak_cmp, BeginsStreak, AreNoted, AreShort}
+use Rattle.fb_wanted.proofs.Words.{◌≡◌, ℕ, suc, ◌-◌, ◌<◌, ◌≤◌, ◌⊎◌, inl, inr, ◌==◌, List, [], ◌∷◌, ◌++◌, Bool, true, false, Some, length}
+use Rattle.fb_wanted.proofs.Words.{filter, slice_get, refl, ap, sym, ◌∙◌, arith, subst, BTreeSet, contains, cases_Bool, true≢false}
+use Rattle.fb_wanted.proofs.Words.{nat_tests, slice_get_within, old_or_last, Entry, Streak, is_of_task, lbns, region_of, key_of}
+use Rattle.fb_wanted.proofs.Words.{streak_cmp, BeginsStreak, AreNoted, AreShort}
 use Rattle.fb_wanted.proofs.Regions.{length-lbns, lbns-own, lbns-other, streaks_stay, last_begins, streak_or_last}
 
 -- no streak begins with a block that isn't registered

@@ -1,16 +1,9 @@
 -- The numbers of blocks in their tasks.
-use Rattle.std.proofs.Common.{◌≡◌, ℕ, ◌≤◌, inl, inr, ◌==◌, List, [], ◌∷◌, ◌++◌, true, Some, if◌then◌else◌}
-use Rattle.std.proofs.Common.{append-nil, filter, slice_get, refl, ap, sym, ◌∙◌, arith, subst, option_map}
-use Rattle.std.proofs.lemmas.Bool.{cases_Bool}
-use Rattle.std.proofs.lemmas.Bool.Decides.{nat_tests}
-use Rattle.std.proofs.lemmas.List.Elements.{filter-append}
-use Rattle.std.proofs.lemmas.Option.{slice_get-map}
-use Rattle.fb_units.proofs.Changed.{old_or_last}
-use Rattle.fb_wanted.specs.declared.block.Block.{Block}
-use Rattle.fb_wanted.specs.declared.block.Entry.{Entry}
+use Rattle.fb_wanted.proofs.Words.{◌≡◌, ℕ, ◌≤◌, inl, inr, ◌==◌, List, [], ◌∷◌, ◌++◌, true, Some, if◌then◌else◌, filter, slice_get, refl}
+use Rattle.fb_wanted.proofs.Words.{ap, sym, ◌∙◌, arith, subst, option_map, cases_Bool, nat_tests, filter-append, slice_get-map}
+use Rattle.fb_wanted.proofs.Words.{old_or_last, Block, Entry, AreInOrder, AreSmall, blocks_of, registered_count, is_of_task, indexes_of}
+use Rattle.std.proofs.Common.{append-nil}
 use Rattle.fb_wanted.specs.States.{is_block}
-use Rattle.fb_wanted.specs.Numbering.{AreInOrder, AreSmall, blocks_of, registered_count}
-use Rattle.fb_wanted.specs.LookUp.{is_of_task, indexes_of}
 use Rattle.fb_wanted.proofs.Standing.{among}
 
 pub blocks-more : (es : List Entry) (e : Entry) → blocks_of (es ++ e ∷ []) ≡ blocks_of es ++ e.block ∷ []

@@ -1,13 +1,7 @@
 -- The change of one block by its number as a change of the blocks of its task.
-use Rattle.std.proofs.Common.{◌≡◌, ℕ, ◌==◌, List, true, false, refl, ap, sym, arith}
-use Rattle.std.proofs.lemmas.Bool.Decides.{nat_tests}
-use Rattle.fb_wanted.specs.declared.block.Change.{Change}
+use Rattle.fb_wanted.proofs.Words.{◌≡◌, ℕ, ◌==◌, List, true, false, refl, ap, sym, arith, nat_tests, Change, Entry, State, after}
+use Rattle.fb_wanted.proofs.Words.{entry_after, state_after, AreInOrder, blocks_of, is_of_task, change_nth}
 use Rattle.fb_wanted.specs.declared.block.Change.TheVariants.{Deliver}
-use Rattle.fb_wanted.specs.declared.block.Entry.{Entry}
-use Rattle.fb_wanted.specs.declared.block.State.{State}
-use Rattle.fb_wanted.specs.States.{after, entry_after, state_after}
-use Rattle.fb_wanted.specs.Numbering.{AreInOrder, blocks_of}
-use Rattle.fb_wanted.specs.LookUp.{is_of_task, change_nth}
 use Rattle.fb_wanted.proofs.Numbers.{number_at}
 use Rattle.fb_wanted.proofs.Standing.{nth_alone, passes}
 

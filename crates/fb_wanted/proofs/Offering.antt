@@ -1,25 +1,15 @@
 -- What the wanted blocks of each track offer, after a block is registered or changes its state.
-use Rattle.std.proofs.Common.{◌≡◌, ℕ, ◌+◌, ◌-◌, ◌<◌, ◌≤◌, ◌⊎◌, inl, inr, List, [], ◌∷◌, ◌++◌, Some, true, false, length, length-append}
-use Rattle.std.proofs.Common.{filter, map, set, slice_get, get_or, refl, ap, sym, ◌∙◌, arith, subst}
-use Rattle.std.specs.List.{sum_by}
-use Rattle.std.proofs.lemmas.Bool.{cases_Bool, cases_eq, cases_lt, true≢false}
-use Rattle.std.proofs.lemmas.List.{length-map, length-set, map-append}
+use Rattle.fb_wanted.proofs.Words.{◌≡◌, ℕ, ◌+◌, ◌-◌, ◌<◌, ◌≤◌, ◌⊎◌, inl, inr, List, [], ◌∷◌, ◌++◌, Some, true, false, length}
+use Rattle.fb_wanted.proofs.Words.{length-append, filter, map, set, slice_get, get_or, refl, ap, sym, ◌∙◌, arith, subst, sum_by}
+use Rattle.fb_wanted.proofs.Words.{cases_Bool, cases_eq, cases_lt, true≢false, length-map, length-set, map-append, same_Some}
+use Rattle.fb_wanted.proofs.Words.{slice_get_within, get_or_from_slice_get, filter-le, same_tracks, track_itself, Track, same_track}
+use Rattle.fb_wanted.proofs.Words.{old_or_last, Block, Entry, State, Wanted, Offer, AreSameBlocks, offer_of, offered_blocks, no_block}
+use Rattle.fb_wanted.proofs.Words.{is_wanted, on_track, wanted_of, OnTrack, indexes_of, is_of_track, no_offer, offers_at, with_state}
+use Rattle.fb_wanted.proofs.Words.{AreOffered, IsChanged}
 use Rattle.std.proofs.lemmas.List.Sums.{sum_by_push, sum_by-swap_remove}
-use Rattle.std.proofs.lemmas.Option.{same_Some, slice_get_within, get_or_from_slice_get}
-use Rattle.fb_units.proofs.Counts.{each_one, filter-le}
-use Rattle.fb_units.proofs.Tracks.{same_tracks, track_itself}
-use Rattle.fb_units.specs.declared.types.Track.{Track}
-use Rattle.fb_units.specs.Tracks.{same_track}
-use Rattle.fb_units.proofs.Changed.{old_or_last}
-use Rattle.fb_wanted.specs.declared.block.Block.{Block}
-use Rattle.fb_wanted.specs.declared.block.Entry.{Entry}
-use Rattle.fb_wanted.specs.declared.block.State.{State}
-use Rattle.fb_wanted.specs.declared.block.State.TheVariants.{Wanted}
-use Rattle.fb_wanted.specs.declared.offer.Offer.{Offer}
-use Rattle.fb_wanted.specs.Offers.{AreSameBlocks, offer_of, offered_blocks, no_block}
-use Rattle.fb_wanted.specs.States.{is_wanted, on_track, wanted_of}
-use Rattle.fb_wanted.specs.LookUp.{OnTrack, indexes_of, is_of_track, no_offer, last_of, taken_out, with_offer, without_offer, offers_at}
-use Rattle.fb_wanted.specs.LookUp.{with_state, AreOffered, IsItsOffer, IsChanged}
+use Rattle.fb_units.proofs.Counts.{each_one}
+use Rattle.fb_wanted.specs.LookUp.{last_of, taken_out, with_offer, without_offer}
+use Rattle.fb_wanted.specs.LookUp.{IsItsOffer}
 use Rattle.fb_wanted.proofs.Found.{block_at, block_is, blocks_still, found_each}
 use Rattle.fb_wanted.proofs.Kept.{swapped_track, swapped_other, changed_here, unchanged}
 use Rattle.fb_wanted.proofs.Elements.{at_left, at_end, set_same, set_other, removed_within, removed_other, removed_at, last_at, state_other}

@@ -1,24 +1,12 @@
 -- What the indexes say of a task and of a track.
-use Rattle.std.proofs.Common.{◌≡◌, ℕ, ◌<◌, ◌≤◌, inl, inr, List, [], ◌∷◌, Some, true, length, filter, slice_get, get_or, ◌*◌, ◌/◌, refl, ap, sym}
-use Rattle.std.proofs.Common.{◌∙◌, arith, subst}
-use Rattle.std.proofs.lemmas.Bool.{cases_lt}
-use Rattle.std.proofs.lemmas.Bool.Decides.{nat_tests}
-use Rattle.std.proofs.lemmas.List.{get_or_past}
-use Rattle.std.proofs.lemmas.Option.{slice_get_within}
-use Rattle.fb_units.proofs.Filtered.{filter_from}
-use Rattle.fb_units.proofs.Lists.{element_at}
-use Rattle.fb_units.proofs.Tracks.{same_tracks, track_itself}
-use Rattle.fb_units.specs.declared.types.Track.{Track}
-use Rattle.fb_wanted.specs.declared.block.Entry.{Entry}
-use Rattle.fb_wanted.specs.declared.block.Counts.{Counts}
-use Rattle.fb_wanted.specs.declared.tasks.OfTask.{OfTask}
-use Rattle.fb_wanted.specs.Counting.{counts_of, is_of, sum_of, AreNoMore, Fit}
-use Rattle.fb_wanted.specs.States.{on_track}
-use Rattle.fb_wanted.specs.declared.depths.Depth.{Depth}
-use Rattle.fb_wanted.specs.Depth.{no_depth, AreDeep}
-use Rattle.fb_wanted.specs.Tracks.{wanted_weight, IsNextRegistered, NoneIsRegistered}
-use Rattle.fb_wanted.specs.LookUp.{OnTrack, indexes_of, is_of_task, is_of_track, track_at, weight_kept, IsThere, IsKept, no_blocks}
-use Rattle.fb_wanted.specs.LookUp.{no_block_on, AreMarked, IsNextTrack, NoTrackIsNext}
+use Rattle.fb_wanted.proofs.Words.{◌≡◌, ℕ, ◌<◌, ◌≤◌, inl, inr, List, [], ◌∷◌, Some, true, length, filter, slice_get, get_or, ◌*◌, ◌/◌}
+use Rattle.fb_wanted.proofs.Words.{refl, ap, sym, ◌∙◌, arith, subst, cases_lt, nat_tests, get_or_past, slice_get_within, filter_from}
+use Rattle.fb_wanted.proofs.Words.{element_at, same_tracks, track_itself, Track, Entry, Counts, OfTask, counts_of, is_of, sum_of}
+use Rattle.fb_wanted.proofs.Words.{AreNoMore, Fit, on_track, Depth, no_depth, AreDeep, wanted_weight, IsNextRegistered, NoneIsRegistered}
+use Rattle.fb_wanted.proofs.Words.{OnTrack, indexes_of, is_of_task, is_of_track, track_at, weight_kept, IsKept, no_blocks, no_block_on}
+use Rattle.fb_wanted.proofs.Words.{IsNextTrack}
+use Rattle.fb_wanted.specs.LookUp.{IsThere}
+use Rattle.fb_wanted.specs.LookUp.{AreMarked, NoTrackIsNext}
 use Rattle.fb_wanted.proofs.Numbers.{block_there}
 use Rattle.fb_wanted.proofs.Standing.{length-indexes_of, among, index_read, index_within, passes, read_at}
 use Rattle.fb_wanted.proofs.Counted.{counts_at, counts-few}

@@ -1,18 +1,10 @@
 -- The streaks of a task's blocks.
-use Rattle.std.proofs.Common.{◌≡◌, ◌≤◌, ◌↔◌, ℕ, zero, suc, ◌⊎◌, inl, inr, ◌==◌, List, [], ◌∷◌, ◌++◌, true, false, Some, length, filter}
-use Rattle.std.proofs.Common.{slice_get, refl, ap, sym, ◌∙◌, arith, subst, option_map}
-use Rattle.std.specs.BTreeSet.{BTreeSet, contains}
-use Rattle.std.proofs.lemmas.Bool.{cases_Bool, cases_lt, true≢false}
-use Rattle.std.proofs.lemmas.Bool.Decides.{nat_tests}
-use Rattle.std.proofs.lemmas.List.{length-map}
-use Rattle.std.proofs.lemmas.Option.{slice_get-map, slice_get_within, same_Some, none-some}
-use Rattle.fb_units.proofs.Lists.{element_at}
-use Rattle.fb_units.proofs.Changed.{old_or_last}
-use Rattle.fb_wanted.specs.declared.block.Entry.{Entry}
-use Rattle.fb_wanted.specs.declared.block.State.{State}
-use Rattle.fb_wanted.specs.declared.streaks.Streak.{Streak}
-use Rattle.fb_wanted.specs.LookUp.{is_of_task, lbns, region_of, key_of, streak_cmp, IsInStreak, BeginsStreak, AreNoted, AreShort}
-use Rattle.fb_wanted.specs.LookUp.{with_state}
+use Rattle.fb_wanted.proofs.Words.{◌≡◌, ◌≤◌, ℕ, zero, suc, ◌⊎◌, inl, inr, ◌==◌, List, [], ◌∷◌, ◌++◌, true, false, Some, length, filter}
+use Rattle.fb_wanted.proofs.Words.{slice_get, refl, ap, sym, ◌∙◌, arith, subst, option_map, BTreeSet, contains, cases_Bool, cases_lt}
+use Rattle.fb_wanted.proofs.Words.{true≢false, nat_tests, length-map, slice_get-map, slice_get_within, same_Some, none-some, element_at}
+use Rattle.fb_wanted.proofs.Words.{old_or_last, Entry, State, Streak, is_of_task, lbns, region_of, key_of, streak_cmp, IsInStreak}
+use Rattle.fb_wanted.proofs.Words.{BeginsStreak, AreNoted, AreShort, with_state}
+use Rattle.std.proofs.Common.{◌↔◌}
 use Rattle.fb_wanted.proofs.Elements.{at_left, at_end}
 
 -- the LBN of the k-th block of a task

@@ -1,16 +1,8 @@
 -- The indexes of blocks among the registered ones.
-use Rattle.std.proofs.Common.{◌≡◌, ℕ, zero, suc, ◌<◌, inl, inr, List, [], ◌∷◌, ◌++◌, Bool, true, false, Some, if◌then◌else◌, set}
-use Rattle.std.proofs.Common.{length, filter, map, slice_get, get_or, refl, ap, sym, ◌∙◌, arith}
-use Rattle.std.proofs.lemmas.Bool.{cases_Bool}
-use Rattle.std.proofs.lemmas.List.{length-map, map-append}
-use Rattle.std.proofs.lemmas.Option.{same_Some, none-some, slice_get_within, slice_get-get_or}
-use Rattle.fb_units.proofs.Filtered.{filter_from}
-use Rattle.fb_units.proofs.Lists.{element_at}
-use Rattle.fb_wanted.specs.declared.block.Entry.{Entry}
-use Rattle.fb_wanted.specs.declared.block.Block.{Block}
-use Rattle.fb_wanted.specs.declared.block.State.{State}
-use Rattle.fb_wanted.specs.Numbering.{blocks_of}
-use Rattle.fb_wanted.specs.LookUp.{indexes_of, with_state, change_nth}
+use Rattle.fb_wanted.proofs.Words.{◌≡◌, ℕ, zero, suc, ◌<◌, inl, inr, List, [], ◌∷◌, ◌++◌, Bool, true, false, Some, if◌then◌else◌, set}
+use Rattle.fb_wanted.proofs.Words.{length, filter, map, slice_get, get_or, refl, ap, sym, ◌∙◌, arith, cases_Bool, length-map, map-append}
+use Rattle.fb_wanted.proofs.Words.{same_Some, none-some, slice_get_within, slice_get-get_or, filter_from, element_at, Entry, Block, State}
+use Rattle.fb_wanted.proofs.Words.{blocks_of, indexes_of, with_state, change_nth}
 
 pub length-indexes_of : (p : Entry → Bool) (es : List Entry) → length (indexes_of p es) ≡ length (filter p es)
 length-indexes_of p [] = refl

@@ -1,11 +1,6 @@
 -- Sums over the blocks, after a block changes its state.
-use Rattle.std.proofs.Common.{◌≡◌, ℕ, zero, suc, ◌+◌, ◌≤◌, List, [], ◌∷◌, Some, map, slice_get, refl, ap, sym, ◌∙◌, arith}
-use Rattle.std.specs.List.{sum_by}
-use Rattle.std.proofs.lemmas.List.Sums.{sum_by-cons}
-use Rattle.std.proofs.lemmas.Option.{same_Some, none-some}
-use Rattle.fb_wanted.specs.declared.block.Entry.{Entry}
-use Rattle.fb_wanted.specs.declared.block.State.{State}
-use Rattle.fb_wanted.specs.LookUp.{with_state}
+use Rattle.fb_wanted.proofs.Words.{◌≡◌, ℕ, zero, suc, ◌+◌, ◌≤◌, List, [], ◌∷◌, Some, map, slice_get, refl, ap, sym, ◌∙◌, arith, sum_by}
+use Rattle.fb_wanted.proofs.Words.{sum_by-cons, same_Some, none-some, Entry, State, with_state}
 
 module _ (sum : List Entry → ℕ) (cons : (x : Entry) (xs : List Entry) → sum (x ∷ xs) ≡ sum (x ∷ []) + sum xs) where
   -- the sum loses the block's part before and gains its part after

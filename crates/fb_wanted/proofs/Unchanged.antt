@@ -1,15 +1,8 @@
 -- Changes that concern none of the blocks that pass a test.
-use Rattle.std.proofs.Common.{◌≡◌, ℕ, ◌+◌, inl, inr, List, [], ◌∷◌, true, false, Bool, length, filter, refl, arith}
-use Rattle.std.proofs.lemmas.Bool.{cases_Bool}
-use Rattle.fb_wanted.specs.declared.block.Change.TheVariants.{Abort, Rewant, Suspend, Resume}
-use Rattle.fb_wanted.specs.declared.block.Block.{Block}
-use Rattle.fb_wanted.specs.declared.block.Change.{Change}
-use Rattle.fb_wanted.specs.declared.block.Entry.{Entry}
-use Rattle.fb_wanted.specs.declared.block.State.{State}
-use Rattle.fb_wanted.specs.declared.block.State.TheVariants.{Wanted, Suspended, Delivered, Aborted}
-use Rattle.fb_wanted.specs.States.{state_after, shares, is_open, is_delivered, is_aborted}
-use Rattle.fb_wanted.specs.Counting.{counted}
-use Rattle.fb_wanted.specs.LookUp.{LeavesAll}
+use Rattle.fb_wanted.proofs.Words.{◌≡◌, ℕ, ◌+◌, inl, inr, List, [], ◌∷◌, true, false, Bool, length, filter, refl, arith, cases_Bool, Abort}
+use Rattle.fb_wanted.proofs.Words.{Suspend, Resume, Block, Change, Entry, State, Wanted, Suspended, Delivered, Aborted, state_after}
+use Rattle.fb_wanted.proofs.Words.{shares, is_open, is_delivered, is_aborted, counted, LeavesAll}
+use Rattle.fb_wanted.specs.declared.block.Change.TheVariants.{Rewant}
 use Rattle.fb_wanted.proofs.Counted.{counts_at, filtered-append}
 use Rattle.fb_wanted.proofs.Sums.{sum_at}
 

@@ -1,20 +1,8 @@
 -- Sums over the wanted blocks of a track, or over any that pass a test.
-use Rattle.std.proofs.Common.{◌≡◌, ℕ, suc, ◌+◌, ◌*◌, ◌≤◌, inl, inr, List, [], ◌∷◌, ◌++◌, Some, Bool, true, false, length, filter, slice_get}
-use Rattle.std.proofs.Common.{refl, ap, ◌∙◌, arith}
-use Rattle.std.specs.List.{sum_by}
-use Rattle.std.proofs.lemmas.Bool.{cases_Bool}
-use Rattle.std.proofs.lemmas.List.Elements.{filter-append}
-use Rattle.std.proofs.lemmas.List.Sums.{sum_by-append}
+use Rattle.fb_wanted.proofs.Words.{◌≡◌, ℕ, suc, ◌+◌, ◌*◌, ◌≤◌, inl, inr, List, [], ◌∷◌, ◌++◌, Some, Bool, true, false, length, filter}
+use Rattle.fb_wanted.proofs.Words.{slice_get, refl, ap, ◌∙◌, arith, sum_by, cases_Bool, filter-append, sum_by-append, Track, same_track}
+use Rattle.fb_wanted.proofs.Words.{Block, Entry, State, is_wanted, wanted_of, AreSmall, blocks_of, wanted_weight, is_of_track, with_state}
 use Rattle.std.proofs.lemmas.Nat.{mul-le}
-use Rattle.fb_units.specs.declared.types.Track.{Track}
-use Rattle.fb_units.specs.Tracks.{same_track}
-use Rattle.fb_wanted.specs.declared.block.Block.{Block}
-use Rattle.fb_wanted.specs.declared.block.Entry.{Entry}
-use Rattle.fb_wanted.specs.declared.block.State.{State}
-use Rattle.fb_wanted.specs.States.{is_wanted, wanted_of}
-use Rattle.fb_wanted.specs.Numbering.{AreSmall, blocks_of}
-use Rattle.fb_wanted.specs.Tracks.{wanted_weight}
-use Rattle.fb_wanted.specs.LookUp.{is_of_track, with_state}
 use Rattle.fb_wanted.proofs.Sums.{sum-with_state, sum_at}
 
 pub wanted-append : (xs ys : List Entry) → wanted_of (xs ++ ys) ≡ wanted_of xs ++ wanted_of ys

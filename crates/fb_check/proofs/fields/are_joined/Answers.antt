@@ -1,8 +1,5 @@
-use Rattle.std.proofs.Common.{◌≡◌, ◌≢◌, ℕ, List, ◌++◌, true≢false, ap, sym, ◌∙◌}
-use Rattle.std.specs.Prelude.{None, Some}
-use Rattle.std.proofs.lemmas.Bool.Decides.{Decides-eqb}
-use Rattle.std.proofs.lemmas.Option.{MatchOption-at_some}
-use Rattle.std.proofs.lemmas.Slice.Eq.{strip_prefix_is}
+use Rattle.fb_check.proofs.Words.{◌≡◌, ◌≢◌, ℕ, List, ◌++◌, true≢false, ap, sym, ◌∙◌, None, Some, Decides-eqb, MatchOption-at_some}
+use Rattle.fb_check.proofs.Words.{strip_prefix_is}
 use Rattle.fb_check.proofs.Joined.{first_left, first_other, more_left, more_other}
 use Rattle.fb_check.proofs.fields.are_joined.Goals as goal
 

@@ -1,9 +1,7 @@
-use Rattle.std.proofs.Common.{Bor, ◌≡◌, ◌≢◌, ℕ, List, [], ◌∷◌, ◌++◌, ap, sym, ◌∙◌}
-use Rattle.std.specs.Prelude.{Option, Some, None, MatchOption}
-use Rattle.std.proofs.lemmas.Bool.Decides.{Decides-eqb}
-use Rattle.std.proofs.lemmas.List.{append_cancel_left}
-use Rattle.std.proofs.lemmas.Option.{MatchOption-at_some}
-use Rattle.std.proofs.lemmas.Slice.Eq.{strip_prefix_is}
+use Rattle.fb_check.proofs.Words.{◌≡◌, ◌≢◌, ℕ, List, [], ◌∷◌, ◌++◌, ap, sym, ◌∙◌, Option, Some, None, Decides-eqb, append_cancel_left}
+use Rattle.fb_check.proofs.Words.{MatchOption-at_some, strip_prefix_is}
+use Rattle.std.proofs.Common.{Bor}
+use Rattle.std.specs.Prelude.{MatchOption}
 use Rattle.fb_check.proofs.fields.behind_field.Goals as goal
 
 -- what stands behind a field that stands behind a space

@@ -1,13 +1,7 @@
-use Rattle.std.proofs.Common.{rules, tests, ◌≡◌, ◌∙◌, ap, arith}
-use Rattle.std.specs.Prelude.{◌==◌, ◌+◌}
-use Rattle.std.specs.List.{zip}
-use Rattle.std.specs.Str.{bytes_eq}
-use Rattle.std.proofs.lemmas.Iterator.{YieldsList-from_slice, YieldsList-from_zip}
-use Rattle.std.proofs.lemmas.Iterator.Consumers.{count_from_yields_List, YieldsList-at}
-use Rattle.std.proofs.lemmas.Iterator.Search.{YieldsList-from_take_while}
-use Rattle.std.proofs.lemmas.Iterator.Splits.{YieldsList-from_slice_split}
-use Rattle.std.proofs.lemmas.List.Folds.{length-prefix_len}
-use Rattle.fb_report.specs.Grammar.{report_fields}
+use Rattle.fb_check.proofs.Words.{rules, tests, ◌≡◌, ◌∙◌, ap, arith, ◌==◌, zip, bytes_eq, YieldsList-from_zip, count_from_yields_List}
+use Rattle.fb_check.proofs.Words.{YieldsList-at, YieldsList-from_take_while, YieldsList-from_slice_split, length-prefix_len, report_fields}
+use Rattle.std.specs.Prelude.{◌+◌}
+use Rattle.std.proofs.lemmas.Iterator.{YieldsList-from_slice}
 use Rattle.fb_check.proofs.FirstField.{agreeing, differ_at, few_agree}
 use Rattle.fb_check.proofs.fields.first_wrong_field.Goals as goal
 

@@ -1,9 +1,5 @@
-use Rattle.std.proofs.Common.{◌≡◌, ◌≢◌, ℕ, List, Bool, false, true≢false, sym, ◌∙◌}
-use Rattle.std.specs.List.{join_with_byte}
-use Rattle.std.specs.Str.{bytes_eq}
-use Rattle.std.proofs.lemmas.List.Splits.{join_with_byte-slice_split}
-use Rattle.std.proofs.lemmas.Slice.Eq.{bytes_eq-Decides}
-use Rattle.fb_report.specs.Grammar.{report_fields}
+use Rattle.fb_check.proofs.Words.{◌≡◌, ◌≢◌, ℕ, List, Bool, false, true≢false, sym, ◌∙◌, join_with_byte, bytes_eq}
+use Rattle.fb_check.proofs.Words.{join_with_byte-slice_split, bytes_eq-Decides, report_fields}
 use Rattle.fb_check.proofs.FirstField.{fields_differ}
 use Rattle.fb_check.proofs.fields.wrong_part.Goals as goal
 

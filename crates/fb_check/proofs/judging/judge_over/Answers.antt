@@ -1,10 +1,7 @@
-use Rattle.std.proofs.Common.{◌∙◌, [], true, true≢false, inl, inr, refl, sym, subst}
+use Rattle.fb_check.proofs.Words.{◌∙◌, [], true, true≢false, inl, inr, refl, sym, subst, inputs_of, state_of, HasMade, lines_of}
+use Rattle.fb_check.proofs.Words.{reports_of}
 use Rattle.fb_report.specs.Grammar.{fore_grammar, back_grammar}
-use Rattle.fb_decide.specs.RunInputs.{inputs_of}
-use Rattle.fb_decide.specs.RunState.{state_of}
-use Rattle.fb_decide.specs.Making.{HasMade}
 use Rattle.fb_decide.proofs.Looping.{one_by}
-use Rattle.fb_check.specs.Printed.{lines_of, reports_of}
 use Rattle.fb_check.proofs.Judged.{at_first, going, less, back_named, wrong_now, next, none_by}
 use Rattle.fb_check.proofs.judging.judge_over.Goals as goal
 

@@ -1,9 +1,5 @@
-use Rattle.std.proofs.Common.{◌≡◌, false, None}
-use Rattle.fb_decide.specs.Making.{decisions_left}
-use Rattle.fb_decide.specs.RunInputs.{inputs_of}
-use Rattle.fb_decide.specs.RunState.{state_of}
-use Rattle.fb_check.specs.Printed.{reports_of}
-use Rattle.fb_check.specs.Judged.{HasJudged}
+use Rattle.fb_check.proofs.Words.{◌≡◌, false, decisions_left, inputs_of, state_of, reports_of, HasJudged}
+use Rattle.std.proofs.Common.{None}
 use Rattle.fb_check.proofs.judging.judge_over.Given as goal
 
 abbrev pub invariant-loop-goes_on : goal.invariant-loop-goes_on

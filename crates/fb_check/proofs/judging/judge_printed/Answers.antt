@@ -1,8 +1,5 @@
+use Rattle.fb_check.proofs.Words.{subst, inputs_of, reports_of, IsVerdict}
 use Rattle.std.specs.Prelude.{IfOk}
-use Rattle.std.proofs.Common.{subst}
-use Rattle.fb_decide.specs.RunInputs.{inputs_of}
-use Rattle.fb_check.specs.Printed.{reports_of}
-use Rattle.fb_check.specs.Verdict.{IsVerdict}
 use Rattle.fb_check.proofs.judging.judge_printed.Goals as goal
 
 pub judge_over-requires : goal.judge_over-requires

@@ -1,11 +1,7 @@
-use Rattle.std.proofs.Common.{◌≡◌, ◌≤◌, true, drop, length, sym, subst, ◌∙◌, arith}
-use Rattle.std.specs.List.{AllByRecursion}
+use Rattle.fb_decide.proofs.Words.{◌≡◌, ◌≤◌, true, drop, length, sym, subst, ◌∙◌, arith, AllByRecursion, all_weaker, all_append, all_left}
+use Rattle.fb_decide.proofs.Words.{all_right, IsRequestOf, inputs_of, HasActed, serves_pick, stays_on, stays_last, ends_here}
 use Rattle.fb_units.proofs.Comparing.{some_number}
-use Rattle.fb_units.proofs.Lists.{all_weaker, all_append, all_left, all_right}
-use Rattle.fb_model.specs.Accepted.{IsRequestOf}
-use Rattle.fb_decide.specs.RunInputs.{inputs_of}
 use Rattle.fb_decide.specs.RunState.{state_by}
-use Rattle.fb_decide.specs.Deciding.{HasActed, serves_pick, stays_on, stays_last, ends_here}
 use Rattle.fb_decide.proofs.Decided.{taken, none_waits, still_waiting}
 use Rattle.fb_decide.proofs.deciding.act.Goals as goal
 

@@ -1,5 +1,4 @@
-use Rattle.std.proofs.Common.{arith}
-use Rattle.fb_model.specs.Accepted.{IsRequestOf}
+use Rattle.fb_decide.proofs.Words.{arith, IsRequestOf}
 use Rattle.fb_decide.proofs.Decided.{taken}
 use Rattle.fb_decide.proofs.deciding.serve_next.Goals as goal
 

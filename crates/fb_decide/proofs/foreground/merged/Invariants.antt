@@ -1,6 +1,4 @@
-use Rattle.std.proofs.Common.{ℕ}
-use Rattle.std.specs.List.{fold}
-use Rattle.fb_model.specs.Foreground.{behind}
+use Rattle.fb_decide.proofs.Words.{ℕ, fold, behind}
 use Rattle.fb_decide.proofs.Behind.{HasPlaced}
 use Rattle.fb_decide.proofs.foreground.merged.Given as goal
 

@@ -1,5 +1,4 @@
-use Rattle.std.proofs.Common.{◌≡◌, ◌≤◌, ◌-◌, ◌++◌, length, drop}
-use Rattle.std.specs.List.{AllByRecursion}
+use Rattle.fb_decide.proofs.Words.{◌≡◌, ◌≤◌, ◌-◌, ◌++◌, length, drop, AllByRecursion}
 use Rattle.fb_decide.proofs.foreground.push_arrived.Given as goal
 
 abbrev pub invariant-loop-next : goal.invariant-loop-next

@@ -1,11 +1,9 @@
-use Rattle.std.proofs.Common.{◌+◌, ◌≤◌, ap, sym, ◌∙◌, arith, subst, take, get_or, false}
-use Rattle.std.specs.Prelude.{◌<◌, IfSome}
-use Rattle.std.specs.List.{AllByRecursion}
+use Rattle.fb_decide.proofs.Words.{◌+◌, ◌≤◌, ap, sym, ◌∙◌, arith, subst, take, get_or, false, IfSome, AllByRecursion, slice_get-get_or}
+use Rattle.fb_decide.proofs.Words.{slice_get_past, Request}
+use Rattle.std.specs.Prelude.{◌<◌}
 use Rattle.std.proofs.lemmas.List.{take_more}
-use Rattle.std.proofs.lemmas.Option.{slice_get-get_or, slice_get_past}
 use Rattle.fb_units.proofs.Lists.{all_push}
 use Rattle.fb_units.specs.declared.types.Name.TheVariants.{Traced}
-use Rattle.fb_units.specs.declared.types.Request.{Request}
 use Rattle.fb_decide.proofs.Decided.{next_joined}
 use Rattle.fb_decide.proofs.joining.join_arrived.Goals as goal
 

@@ -1,7 +1,4 @@
-use Rattle.std.proofs.Common.{◌≡◌, ◌≤◌, ◌-◌, length, take}
-use Rattle.std.specs.List.{AllByRecursion}
-use Rattle.fb_service.specs.declared.disk.Disk.{Disk}
-use Rattle.fb_decide.specs.Waiting.{left}
+use Rattle.fb_decide.proofs.Words.{◌≡◌, ◌≤◌, ◌-◌, length, take, AllByRecursion, Disk, left}
 use Rattle.fb_decide.proofs.joining.join_arrived.Given as goal
 
 abbrev pub invariant-loop-next : goal.invariant-loop-next

@@ -1,5 +1,4 @@
-use Rattle.std.proofs.Common.{subst}
-use Rattle.fb_geometry.specs.Sound.{IsSound}
+use Rattle.fb_decide.proofs.Words.{subst, IsSound}
 use Rattle.fb_model.proofs.Passages.{long_slots}
 use Rattle.fb_decide.proofs.laws.disk_is_sound.Goals as goal
 

@@ -1,10 +1,7 @@
-use Rattle.std.proofs.Common.{◌≡◌, ◌∙◌, ◌&&◌, ap, arith, length, refl, take}
+use Rattle.fb_decide.proofs.Words.{◌≡◌, ◌∙◌, ◌&&◌, ap, arith, length, refl, take, all_passages_of, IsBlockOn, in_order, lies_in, ride_of}
+use Rattle.fb_decide.proofs.Words.{added, begins_in}
 use Rattle.std.proofs.Math.Seq.{take-length}
-use Rattle.fb_service.specs.Extents.{all_passages_of}
-use Rattle.fb_model.specs.Blocks.{IsBlockOn}
-use Rattle.fb_model.specs.Deliveries.{in_order, lies_in, ride_of}
 use Rattle.fb_plan.proofs.AnyOrder.{any-order, on-its-track}
-use Rattle.fb_decide.specs.Carried.{added, begins_in}
 use Rattle.fb_decide.proofs.Carrying.{added_more}
 use Rattle.fb_decide.proofs.riding.add_carried.Goals as goal
 

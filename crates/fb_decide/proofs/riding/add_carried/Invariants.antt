@@ -1,6 +1,4 @@
-use Rattle.std.proofs.Common.{◌≡◌, take}
-use Rattle.fb_service.specs.Extents.{all_passages_of}
-use Rattle.fb_decide.specs.Carried.{added}
+use Rattle.fb_decide.proofs.Words.{◌≡◌, take, all_passages_of, added}
 use Rattle.fb_decide.proofs.riding.add_carried.Given as goal
 
 abbrev pub invariant-loop-i : goal.invariant-loop-i

@@ -1,10 +1,4 @@
-use Rattle.std.proofs.Common.{◌∙◌, ◌≡◌, ◌<◌, sym}
-use Rattle.fb_units.proofs.Lists.{all_from_index}
-use Rattle.fb_sectormap.specs.LookUp.{track_at}
-use Rattle.fb_service.specs.Extents.{all_passages_of}
-use Rattle.fb_wanted.specs.declared.block.Entry.{Entry}
-use Rattle.fb_wanted.specs.States.{wanted_of}
-use Rattle.fb_model.specs.Deliveries.{in_order}
+use Rattle.fb_decide.proofs.Words.{◌∙◌, ◌≡◌, ◌<◌, sym, all_from_index, track_at, all_passages_of, Entry, wanted_of, in_order}
 use Rattle.fb_decide.specs.Carried.{IsExtentOf}
 use Rattle.fb_decide.proofs.Carrying.{next_added, none_added, carried_whole, each_wanted, extent_at}
 use Rattle.fb_decide.proofs.riding.carried.Goals as goal

@@ -1,7 +1,4 @@
-use Rattle.std.proofs.Common.{◌≡◌, [], drop}
-use Rattle.fb_service.specs.Extents.{all_passages_of}
-use Rattle.fb_wanted.specs.States.{wanted_of}
-use Rattle.fb_model.specs.Deliveries.{in_order}
+use Rattle.fb_decide.proofs.Words.{◌≡◌, [], drop, all_passages_of, wanted_of, in_order}
 use Rattle.fb_decide.proofs.Carrying.{added_by_all}
 use Rattle.fb_decide.proofs.riding.carried.Given as goal
 

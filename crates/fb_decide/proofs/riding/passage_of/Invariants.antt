@@ -1,5 +1,4 @@
-use Rattle.std.proofs.Common.{◌≡◌, ◌==◌, drop, find}
-use Rattle.fb_service.specs.Extents.{all_passages_of}
+use Rattle.fb_decide.proofs.Words.{◌≡◌, ◌==◌, drop, find, all_passages_of}
 use Rattle.fb_decide.proofs.riding.passage_of.Given as goal
 
 abbrev pub invariant-loop-extent : goal.invariant-loop-extent

@@ -1,5 +1,4 @@
-use Rattle.std.proofs.Common.{arith}
-use Rattle.fb_decide.specs.Start.{IsServiceOf, served_from}
+use Rattle.fb_decide.proofs.Words.{arith, IsServiceOf, served_from}
 use Rattle.fb_decide.proofs.Served.{has-served}
 use Rattle.fb_decide.proofs.serving.serve_request.Given as given
 use Rattle.fb_decide.proofs.serving.serve_request.Goals as goal

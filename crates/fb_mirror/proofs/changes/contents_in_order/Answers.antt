@@ -1,13 +1,7 @@
-use Rattle.std.proofs.Common.{rules, ◌≡◌, ◌+◌, ◌≤◌, ◌^◌, map, None, sym, ap, ◌∙◌, ℕ, List, subst}
-use Rattle.std.specs.Option.{option_map}
-use Rattle.std.specs.List.{AllByRecursion}
-use Rattle.std.proofs.lemmas.Result.{IfOk-weaker}
+use Rattle.fb_mirror.proofs.Words.{◌≡◌, ◌+◌, ◌≤◌, ◌^◌, map, None, sym, ap, ◌∙◌, ℕ, List, subst, option_map, AllByRecursion, IfOk-weaker}
+use Rattle.fb_mirror.proofs.Words.{IsPermutation, sectors_of, after_taking, Change, IsWithin, events, held_after}
+use Rattle.std.proofs.Common.{rules}
 use Rattle.std.proofs.lemmas.List.Sorted.{answers_always, IsNonDecreasingBy-from_sort_by_key}
-use Rattle.std.specs.List.Sorted.{IsPermutation}
-use Rattle.fb_store.specs.Runs.{sectors_of}
-use Rattle.fb_store.specs.Sparse.{after_taking}
-use Rattle.fb_mirror.specs.declared.changes.Change.{Change}
-use Rattle.fb_mirror.specs.Replacement.{IsWithin, events, held_after}
 use Rattle.fb_mirror.proofs.Deciding.{latest, latest_decides}
 use Rattle.fb_mirror.proofs.Order.{Ends, sorted_decide, sorted_ends, sorted_within}
 use Rattle.fb_mirror.proofs.changes.contents_in_order.Goals as goal

@@ -1,7 +1,4 @@
-use Rattle.std.proofs.Common.{◌≡◌, ◌++◌, take}
-use Rattle.std.specs.List.{flat_map}
-use Rattle.fb_mirror.specs.Changes.{changes_of}
-use Rattle.fb_mirror.specs.Replacement.{writes_in}
+use Rattle.fb_mirror.proofs.Words.{◌≡◌, ◌++◌, take, flat_map, changes_of, writes_in}
 use Rattle.fb_mirror.proofs.changes.push_writes.Given as goal
 
 abbrev pub invariant-loop-i : goal.invariant-loop-i

@@ -1,9 +1,5 @@
-use Rattle.std.proofs.Common.{◌≡◌, ◌+◌, ◌≤◌, ℕ, None}
-use Rattle.std.specs.List.{AllByRecursion, range_with_len}
-use Rattle.std.proofs.lemmas.Result.{IfOk-weaker}
-use Rattle.fb_store.specs.Ranges.{held_at}
-use Rattle.fb_store.specs.Runs.{runs_of, sectors_of}
-use Rattle.fb_store.specs.Sparse.{after_taking, held_in, EndsBy}
+use Rattle.fb_mirror.proofs.Words.{◌≡◌, ◌+◌, ◌≤◌, ℕ, None, AllByRecursion, range_with_len, IfOk-weaker, held_at, runs_of, sectors_of}
+use Rattle.fb_mirror.proofs.Words.{after_taking, held_in, EndsBy}
 use Rattle.fb_mirror.proofs.Covering.{taken_runs}
 use Rattle.fb_mirror.proofs.rebuilt.covered.Goals as goal
 

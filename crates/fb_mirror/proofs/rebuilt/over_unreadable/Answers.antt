@@ -1,12 +1,5 @@
-use Rattle.std.proofs.Common.{◌≡◌, ◌++◌, ◌∷◌, [], ℕ, List, None, map, ap, ◌∙◌}
-use Rattle.std.specs.List.{range_with_len}
-use Rattle.std.specs.Option.{unwrap_or}
-use Rattle.std.proofs.lemmas.Result.{IfOk-weaker}
-use Rattle.fb_store.specs.declared.content.Content.TheVariants.{Unreadable}
-use Rattle.fb_store.specs.declared.content.ContentRun.{ContentRun}
-use Rattle.fb_store.specs.Ranges.{held_at}
-use Rattle.fb_store.specs.Runs.{runs_of, sectors_of}
-use Rattle.fb_store.specs.Sparse.{after_taking, held_in, EndsBy}
+use Rattle.fb_mirror.proofs.Words.{◌≡◌, ◌++◌, ◌∷◌, [], ℕ, List, None, map, ap, ◌∙◌, range_with_len, unwrap_or, IfOk-weaker, Unreadable}
+use Rattle.fb_mirror.proofs.Words.{ContentRun, held_at, runs_of, sectors_of, after_taking, held_in, EndsBy}
 use Rattle.fb_mirror.proofs.Covering.{whole_runs}
 use Rattle.fb_mirror.proofs.rebuilt.over_unreadable.Goals as goal
 

@@ -1,9 +1,4 @@
-use Rattle.std.proofs.Common.{None, arith, ◌∙◌}
-use Rattle.std.specs.Prelude.{is_some}
-use Rattle.std.specs.List.{range_with_len}
-use Rattle.fb_store.specs.Runs.{sectors_of}
-use Rattle.fb_store.specs.Sparse.{after_taking}
-use Rattle.fb_mirror.specs.Replacement.{events, held_after}
+use Rattle.fb_mirror.proofs.Words.{None, arith, ◌∙◌, is_some, range_with_len, sectors_of, after_taking, events, held_after}
 use Rattle.fb_mirror.proofs.Covering.{held_sum, kept_few}
 use Rattle.fb_mirror.proofs.rebuilt.rebuild.Goals as goal
 

@@ -1,5 +1,4 @@
-use Rattle.std.proofs.Common.{◌≡◌, drop}
-use Rattle.fb_mirror.specs.Replacement.{sealed_in}
+use Rattle.fb_mirror.proofs.Words.{◌≡◌, drop, sealed_in}
 use Rattle.fb_mirror.proofs.rebuilt.sealed.Given as goal
 
 abbrev pub invariant-loop-i : goal.invariant-loop-i

@@ -1,7 +1,6 @@
-use Rattle.std.proofs.Common.{arith, ap}
+use Rattle.fb_mirror.proofs.Words.{arith, ap, ContentRun}
 use Rattle.std.proofs.lemmas.List.Sums.{sum_by_more, sum_by_more_le}
 use Rattle.std.proofs.lemmas.Option.{slice_get_within, get_or_from_slice_get}
-use Rattle.fb_store.specs.declared.content.ContentRun.{ContentRun}
 use Rattle.fb_mirror.proofs.rebuilt.sectors.Goals as goal
 
 pub overflow_add-sectors : goal.overflow_add-sectors

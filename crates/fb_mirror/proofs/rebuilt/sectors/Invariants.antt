@@ -1,5 +1,4 @@
-use Rattle.std.proofs.Common.{◌≡◌, take}
-use Rattle.std.specs.List.{sum_by}
+use Rattle.fb_mirror.proofs.Words.{◌≡◌, take, sum_by}
 use Rattle.fb_mirror.proofs.rebuilt.sectors.Given as goal
 
 abbrev pub invariant-loop-i : goal.invariant-loop-i

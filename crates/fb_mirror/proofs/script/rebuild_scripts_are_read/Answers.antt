@@ -1,5 +1,4 @@
-use Rattle.std.proofs.Common.{arith, subst}
-use Rattle.fb_geometry.specs.Sound.{IsSound}
+use Rattle.fb_mirror.proofs.Words.{arith, subst, IsSound}
 use Rattle.fb_mirror.proofs.ScriptRead.{script_read}
 use Rattle.fb_mirror.proofs.script.rebuild_scripts_are_read.Goals as goal
 

@@ -1,5 +1,4 @@
-use Rattle.std.proofs.Common.{◌≡◌, ◌∙◌, ap}
-use Rattle.fb_model.specs.Plans.{block_begin, block_end}
+use Rattle.fb_plan.proofs.Words.{◌≡◌, ◌∙◌, ap, block_begin, block_end}
 use Rattle.fb_plan.proofs.Swept.{turning-begin, turning-end}
 use Rattle.fb_plan.proofs.catching.catch_of.Goals as goal
 

@@ -1,6 +1,5 @@
-use Rattle.std.proofs.Common.{rules}
+use Rattle.fb_plan.proofs.Words.{rules, is_before}
 use Rattle.std.proofs.lemmas.Fn.{always_returns_same}
-use Rattle.fb_model.specs.Deliveries.{is_before}
 use Rattle.fb_plan.proofs.Sorted.{delivery_is_an_order, sorted_is_in_order}
 use Rattle.fb_plan.proofs.catching.put_in_order.Goals as goal
 

@@ -1,6 +1,4 @@
-use Rattle.std.proofs.Common.{◌∙◌, slice_get, ap, sym}
-use Rattle.fb_units.proofs.Filtered.{filter_from}
-use Rattle.fb_units.specs.Tracks.{same_track}
+use Rattle.fb_plan.proofs.Words.{◌∙◌, slice_get, ap, sym, filter_from, same_track}
 use Rattle.fb_plan.proofs.sides.blocks_on.Goals as goal
 
 pub returns-clause-on_disk : goal.returns-clause-on_disk

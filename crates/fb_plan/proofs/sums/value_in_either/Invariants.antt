@@ -1,6 +1,5 @@
-use Rattle.std.proofs.Common.{◌≡◌, ◌≤◌, ◌*◌, ◌^◌, take}
-use Rattle.std.specs.List.{sum_by}
-use Rattle.fb_plan.specs.Turns.{added, passes_in_either}
+use Rattle.fb_plan.proofs.Words.{◌≡◌, ◌≤◌, ◌*◌, ◌^◌, take, sum_by, added}
+use Rattle.fb_plan.specs.Turns.{passes_in_either}
 use Rattle.fb_plan.proofs.sums.value_in_either.Given as goal
 
 abbrev pub invariant-loop-offer : goal.invariant-loop-offer

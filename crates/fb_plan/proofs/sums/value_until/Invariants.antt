@@ -1,6 +1,4 @@
-use Rattle.std.proofs.Common.{◌≡◌, ◌≤◌, ◌*◌, ◌^◌, take}
-use Rattle.std.specs.List.{sum_by}
-use Rattle.fb_plan.specs.Turns.{added, passes_by}
+use Rattle.fb_plan.proofs.Words.{◌≡◌, ◌≤◌, ◌*◌, ◌^◌, take, sum_by, added, passes_by}
 use Rattle.fb_plan.proofs.sums.value_until.Given as goal
 
 abbrev pub invariant-loop-offer : goal.invariant-loop-offer

@@ -1,10 +1,6 @@
-use Rattle.std.proofs.Common.{◌≡◌, ◌+◌, ◌-◌, ◌%◌, ap, sym, ◌∙◌}
-use Rattle.fb_units.specs.declared.types.Place.{Place}
-use Rattle.fb_units.specs.Wait.{wait}
-use Rattle.fb_geometry.specs.Shape.{Shape, slots_at}
-use Rattle.fb_geometry.specs.Angles.{slot_begin}
-use Rattle.fb_seek.specs.Positioning.{pos, seek, distance_of}
-use Rattle.fb_service.specs.Passing.{begin_from, begin_angle}
+use Rattle.fb_service.proofs.Words.{◌≡◌, ◌+◌, ◌-◌, ◌%◌, ap, sym, ◌∙◌, Place, wait, Shape, slots_at, slot_begin, pos, begin_from}
+use Rattle.fb_service.proofs.Words.{begin_angle}
+use Rattle.fb_seek.specs.Positioning.{seek, distance_of}
 use Rattle.fb_service.proofs.Approaching.{passes_in, angle_behind}
 use Rattle.fb_service.proofs.approach.wait_on.Goals as goal
 

@@ -1,9 +1,7 @@
-use Rattle.std.proofs.Common.{◌≡◌, ◌+◌, ◌≤◌, [], ◌++◌, refl, ap, sym, ◌∙◌, subst, arith, append_assoc, append-nil}
-use Rattle.std.specs.List.{AllByRecursion}
+use Rattle.fb_service.proofs.Words.{◌≡◌, ◌+◌, ◌≤◌, [], ◌++◌, refl, ap, sym, ◌∙◌, subst, arith, append_assoc, append-nil, AllByRecursion}
+use Rattle.fb_service.proofs.Words.{Shape, passages_of, all_passages_of, IsUnbroken}
 use Rattle.std.proofs.lemmas.Bool.{true≢false, eqb-true}
 use Rattle.fb_units.proofs.{Tracks.same_tracks, Lists.all_push}
-use Rattle.fb_geometry.specs.Shape.{Shape}
-use Rattle.fb_service.specs.Extents.{passages_of, all_passages_of, IsUnbroken}
 use Rattle.fb_service.proofs.{Joining.joined-passages, Joining.joined-unbroken, Serving.all_served}
 use Rattle.fb_service.proofs.service.add_extent.Goals as goal
 use Rattle.fb_service.proofs.service.add_extent.Goals.{then-eq, else-eq}

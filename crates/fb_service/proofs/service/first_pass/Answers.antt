@@ -1,8 +1,4 @@
-use Rattle.std.proofs.Common.{◌≡◌, ap, ◌∙◌, ◌+◌}
-use Rattle.fb_units.specs.declared.types.Place.{Place}
-use Rattle.fb_geometry.specs.Shape.{Shape}
-use Rattle.fb_seek.specs.Positioning.{pos}
-use Rattle.fb_service.specs.Passing.{begin_from}
+use Rattle.fb_service.proofs.Words.{◌≡◌, ap, ◌∙◌, ◌+◌, Place, Shape, pos, begin_from}
 use Rattle.fb_service.proofs.service.first_pass.Goals as goal
 
 pub returns-clause-value : goal.returns-clause-value

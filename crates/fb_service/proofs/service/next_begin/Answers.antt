@@ -1,5 +1,4 @@
-use Rattle.std.proofs.Common.{ap, ◌∙◌}
-use Rattle.fb_units.specs.Wait.{wait}
+use Rattle.fb_service.proofs.Words.{ap, ◌∙◌, wait}
 use Rattle.fb_service.proofs.Passes.{begins_at}
 use Rattle.fb_service.proofs.service.next_begin.Goals as goal
 

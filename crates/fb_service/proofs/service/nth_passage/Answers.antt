@@ -1,7 +1,5 @@
-use Rattle.std.proofs.Common.{◌≡◌, ◌+◌, ap, ◌∙◌}
-use Rattle.fb_geometry.specs.Shape.{Shape}
-use Rattle.fb_service.specs.Passing.{begin_from, end_from, turned}
-use Rattle.fb_units.specs.declared.types.Place.{Place}
+use Rattle.fb_service.proofs.Words.{◌≡◌, ◌+◌, ap, ◌∙◌, Shape, begin_from, turned, Place}
+use Rattle.fb_service.specs.Passing.{end_from}
 use Rattle.fb_service.proofs.service.nth_passage.Goals as goal
 
 pub returns : goal.returns

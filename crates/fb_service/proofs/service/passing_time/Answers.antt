@@ -1,7 +1,4 @@
-use Rattle.std.proofs.Common.{◌≡◌, ◌+◌, ◌-◌, ◌<◌, ◌≤◌, ap, arith}
-use Rattle.fb_geometry.specs.Shape.{slots_at}
-use Rattle.fb_geometry.specs.Angles.{slot_begin}
-use Rattle.fb_service.specs.Passing.{turned}
+use Rattle.fb_service.proofs.Words.{◌≡◌, ◌+◌, ◌-◌, ◌<◌, ◌≤◌, ap, arith, slots_at, slot_begin, turned}
 use Rattle.fb_service.proofs.Turning.{over, within-turn, later-after}
 use Rattle.fb_service.proofs.service.passing_time.Goals as goal
 

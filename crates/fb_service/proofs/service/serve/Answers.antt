@@ -1,9 +1,6 @@
-use Rattle.std.proofs.Common.{◌+◌, ◌-◌, [], ◌++◌, refl, sym, ap, ◌∙◌, subst, arith}
-use Rattle.std.specs.List.{AllByRecursion}
+use Rattle.fb_service.proofs.Words.{◌+◌, ◌-◌, [], ◌++◌, refl, sym, ap, ◌∙◌, subst, arith, AllByRecursion, IsTrackOf, place_at, passages_of}
+use Rattle.fb_service.proofs.Words.{all_passages_of, IsUnbroken}
 use Rattle.fb_units.proofs.Lists.{all_push}
-use Rattle.fb_geometry.specs.Shape.{IsTrackOf}
-use Rattle.fb_sectormap.specs.LookUp.{place_at}
-use Rattle.fb_service.specs.Extents.{passages_of, all_passages_of, IsUnbroken}
 use Rattle.fb_service.proofs.Serving.{served_more, first_media, all_served, finish-all, no_passages, passing-more, all_take}
 use Rattle.fb_service.proofs.service.serve.Goals as goal
 

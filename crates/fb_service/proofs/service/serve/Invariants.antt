@@ -1,10 +1,6 @@
-use Rattle.std.proofs.Common.{◌≡◌, ℕ, ◌+◌, ◌-◌, ◌*◌, ◌<◌, ◌≤◌, ◌^◌, ◌++◌}
-use Rattle.std.specs.List.{AllByRecursion}
-use Rattle.fb_geometry.specs.Shape.{IsTrackOf}
-use Rattle.fb_sectormap.specs.LookUp.{place_at}
-use Rattle.fb_service.specs.Passing.{length_of}
-use Rattle.fb_service.specs.Service.{passages}
-use Rattle.fb_service.specs.Extents.{passages_of, all_passages_of, IsUnbroken}
+use Rattle.fb_service.proofs.Words.{◌≡◌, ℕ, ◌+◌, ◌-◌, ◌*◌, ◌<◌, ◌≤◌, ◌++◌, AllByRecursion, IsTrackOf, place_at, length_of, passages}
+use Rattle.fb_service.proofs.Words.{passages_of, all_passages_of, IsUnbroken}
+use Rattle.std.proofs.Common.{◌^◌}
 use Rattle.fb_service.proofs.service.serve.Given as goal
 
 abbrev pub invariant-loop-served : goal.invariant-loop-served

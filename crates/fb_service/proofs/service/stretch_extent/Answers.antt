@@ -1,8 +1,5 @@
-use Rattle.std.proofs.Common.{◌≡◌, ◌+◌, ◌%◌, ◌<◌, ◌≤◌, ap, ◌∙◌, subst, arith, refl}
-use Rattle.fb_units.specs.declared.types.Place.{Place}
-use Rattle.fb_geometry.specs.Shape.{Shape, slots_at}
-use Rattle.fb_seek.specs.Positioning.{pos}
-use Rattle.fb_service.specs.Passing.{begin_from, begin_angle, turned}
+use Rattle.fb_service.proofs.Words.{◌≡◌, ◌+◌, ◌%◌, ◌<◌, ◌≤◌, ap, ◌∙◌, subst, arith, refl, Place, Shape, slots_at, pos, begin_from}
+use Rattle.fb_service.proofs.Words.{begin_angle, turned}
 use Rattle.fb_service.proofs.Unbroken.{at_angle, are-passing, unbroken}
 use Rattle.fb_service.proofs.service.stretch_extent.Goals as goal
 

@@ -1,5 +1,4 @@
-use Rattle.std.proofs.Common.{◌≡◌, map, take}
-use Rattle.fb_store.specs.Kept.{run_of}
+use Rattle.fb_store.proofs.Words.{◌≡◌, map, take, run_of}
 use Rattle.fb_store.proofs.contents.listed.Given as goal
 
 abbrev pub invariant-loop-run : goal.invariant-loop-run

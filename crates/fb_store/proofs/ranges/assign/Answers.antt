@@ -1,7 +1,4 @@
-use Rattle.std.proofs.Common.{Some, arith, inl, inr}
-use Rattle.std.specs.Ordering.{nat_cmp}
-use Rattle.std.specs.BTreeMap.{get}
-use Rattle.std.proofs.lemmas.Bool.{cases_lt}
+use Rattle.fb_store.proofs.Words.{Some, arith, inl, inr, nat_cmp, get, cases_lt}
 use Rattle.fb_store.proofs.Held.{assigned_inside, assigned_after}
 use Rattle.fb_store.proofs.ranges.assign.Goals as goal
 

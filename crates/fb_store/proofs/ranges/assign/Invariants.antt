@@ -1,6 +1,5 @@
-use Rattle.std.proofs.Common.{◌≡◌, ℕ, ◌<◌, ◌≤◌, ◌-◌, Some, max}
-use Rattle.std.specs.Ordering.{nat_cmp}
-use Rattle.std.specs.BTreeMap.{get, ContainsKey}
+use Rattle.fb_store.proofs.Words.{◌≡◌, ℕ, ◌<◌, ◌≤◌, ◌-◌, Some, nat_cmp, get, ContainsKey}
+use Rattle.std.proofs.Common.{max}
 use Rattle.fb_store.proofs.ranges.assign.Given as goal
 
 abbrev pub invariant-loop-begin : goal.invariant-loop-begin

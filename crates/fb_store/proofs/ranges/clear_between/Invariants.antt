@@ -1,6 +1,4 @@
-use Rattle.std.proofs.Common.{◌≡◌, ◌-◌, ℕ, ◌<◌, ◌≤◌}
-use Rattle.std.specs.Ordering.{nat_cmp}
-use Rattle.std.specs.BTreeMap.{get, ContainsKey}
+use Rattle.fb_store.proofs.Words.{◌≡◌, ◌-◌, ℕ, ◌<◌, ◌≤◌, nat_cmp, get, ContainsKey}
 use Rattle.fb_store.proofs.ranges.clear_between.Given as goal
 
 abbrev pub invariant-loop-begin : goal.invariant-loop-begin

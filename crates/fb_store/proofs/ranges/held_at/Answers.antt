@@ -1,6 +1,4 @@
-use Rattle.std.proofs.Common.{sym}
-use Rattle.std.specs.Ordering.{nat_cmp}
-use Rattle.std.specs.BTreeMap.{get}
+use Rattle.fb_store.proofs.Words.{sym, nat_cmp, get}
 use Rattle.fb_store.proofs.Held.{held_last, none_held, is_not_above}
 use Rattle.fb_store.proofs.ranges.held_at.Goals as goal
 

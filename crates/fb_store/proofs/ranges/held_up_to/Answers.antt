@@ -1,7 +1,4 @@
-use Rattle.std.proofs.Common.{arith, inl, inr}
-use Rattle.std.specs.Ordering.{nat_cmp}
-use Rattle.std.specs.BTreeMap.{get}
-use Rattle.std.proofs.lemmas.Bool.{cases_lt}
+use Rattle.fb_store.proofs.Words.{arith, inl, inr, nat_cmp, get, cases_lt}
 use Rattle.fb_store.proofs.Held.{held_last, is_below, is_not_above, not_above, not_below}
 use Rattle.fb_store.proofs.ranges.held_up_to.Goals as goal
 

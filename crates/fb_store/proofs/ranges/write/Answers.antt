@@ -1,6 +1,4 @@
-use Rattle.std.proofs.Common.{Some, ap, sym, ◌∙◌}
-use Rattle.std.specs.Ordering.{nat_cmp}
-use Rattle.std.specs.BTreeMap.{get}
+use Rattle.fb_store.proofs.Words.{Some, ap, sym, ◌∙◌, nat_cmp, get}
 use Rattle.fb_store.proofs.Held.{wrote_inside, wrote_before, wrote_after}
 use Rattle.fb_store.proofs.ranges.write.Goals as goal
 

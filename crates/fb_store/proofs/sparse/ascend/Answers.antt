@@ -1,7 +1,6 @@
-use Rattle.std.proofs.Common.{◌∙◌, ◌+◌, ◌&&◌, ap, sym, arith, drop}
+use Rattle.fb_store.proofs.Words.{◌∙◌, ◌+◌, ◌&&◌, ap, sym, arith, drop, ascend}
 use Rattle.fb_units.proofs.Comparing.{after_is, by_is}
 use Rattle.fb_units.proofs.Lists.{drop_at}
-use Rattle.fb_store.specs.Sparse.{ascend}
 use Rattle.fb_store.proofs.sparse.ascend.Goals as goal
 
 pub returns-then-run-end : goal.returns-then-run-end

@@ -1,5 +1,4 @@
-use Rattle.std.proofs.Common.{◌≡◌, drop}
-use Rattle.fb_store.specs.Sparse.{ascend}
+use Rattle.fb_store.proofs.Words.{◌≡◌, drop, ascend}
 use Rattle.fb_store.proofs.sparse.ascend.Given as goal
 
 abbrev pub invariant-loop-i : goal.invariant-loop-i

@@ -1,7 +1,4 @@
-use Rattle.std.proofs.Common.{◌+◌, ◌∙◌, arith}
-use Rattle.std.specs.Ordering.{nat_cmp}
-use Rattle.std.specs.BTreeMap.{get}
-use Rattle.fb_store.specs.Ranges.{held_of}
+use Rattle.fb_store.proofs.Words.{◌+◌, ◌∙◌, arith, nat_cmp, get, held_of}
 use Rattle.fb_store.proofs.Taken.{taken_more, taken_run}
 use Rattle.fb_store.proofs.sparse.assign_runs.Goals as goal
 

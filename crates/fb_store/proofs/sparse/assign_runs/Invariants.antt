@@ -1,9 +1,5 @@
-use Rattle.std.proofs.Common.{◌≡◌, ℕ, ◌^◌, take}
-use Rattle.std.specs.Ordering.{nat_cmp}
-use Rattle.std.specs.BTreeMap.{get}
-use Rattle.fb_store.specs.Ranges.{held_of, AreCut}
-use Rattle.fb_store.specs.Sparse.{after_taking, EndsBy}
-use Rattle.fb_store.specs.Runs.{sectors_of}
+use Rattle.fb_store.proofs.Words.{◌≡◌, ℕ, ◌^◌, take, nat_cmp, get, held_of, after_taking, EndsBy, sectors_of}
+use Rattle.fb_store.specs.Ranges.{AreCut}
 use Rattle.fb_store.proofs.sparse.assign_runs.Given as goal
 
 abbrev pub invariant-loop-i : goal.invariant-loop-i

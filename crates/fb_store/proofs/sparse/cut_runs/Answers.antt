@@ -1,7 +1,4 @@
-use Rattle.std.proofs.Common.{◌∙◌, ◌+◌}
-use Rattle.std.specs.Ordering.{nat_cmp}
-use Rattle.std.specs.BTreeMap.{ContainsKey}
-use Rattle.fb_store.specs.declared.content.ContentRun.{ContentRun}
+use Rattle.fb_store.proofs.Words.{◌∙◌, ◌+◌, nat_cmp, ContainsKey, ContentRun}
 use Rattle.fb_store.proofs.Held.{some_there}
 use Rattle.fb_store.proofs.Taken.{so_far_more}
 use Rattle.fb_store.proofs.sparse.cut_runs.Goals as goal

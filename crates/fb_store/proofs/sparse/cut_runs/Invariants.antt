@@ -1,8 +1,4 @@
-use Rattle.std.proofs.Common.{◌≡◌, ℕ, ◌+◌, ◌<◌, Some, slice_get}
-use Rattle.std.specs.Ordering.{nat_cmp}
-use Rattle.std.specs.BTreeMap.{get, ContainsKey}
-use Rattle.fb_store.specs.declared.content.ContentRun.{ContentRun}
-use Rattle.fb_store.specs.Ranges.{held_of}
+use Rattle.fb_store.proofs.Words.{◌≡◌, ℕ, ◌+◌, ◌<◌, Some, slice_get, nat_cmp, get, ContainsKey, ContentRun, held_of}
 use Rattle.fb_store.proofs.sparse.cut_runs.Given as goal
 
 abbrev pub invariant-loop-i : goal.invariant-loop-i

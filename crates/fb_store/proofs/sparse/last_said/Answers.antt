@@ -1,10 +1,5 @@
-use Rattle.std.proofs.Common.{None, ◌∙◌, ◌^◌, ap, arith}
+use Rattle.fb_store.proofs.Words.{None, ◌∙◌, ◌^◌, ap, arith, nat_cmp, get, held_of, after_taking, sectors_of}
 use Rattle.std.proofs.lemmas.List.{take_all}
-use Rattle.std.specs.Ordering.{nat_cmp}
-use Rattle.std.specs.BTreeMap.{get}
-use Rattle.fb_store.specs.Ranges.{held_of}
-use Rattle.fb_store.specs.Sparse.{after_taking}
-use Rattle.fb_store.specs.Runs.{sectors_of}
 use Rattle.fb_store.proofs.Taken.{held_at_empty, taken_more, said_again}
 use Rattle.fb_store.proofs.sparse.last_said.Goals as goal
 

@@ -1,9 +1,4 @@
-use Rattle.std.proofs.Common.{◌≡◌, ℕ, None, ◌^◌, take}
-use Rattle.std.specs.Ordering.{nat_cmp}
-use Rattle.std.specs.BTreeMap.{get}
-use Rattle.fb_store.specs.Ranges.{held_of}
-use Rattle.fb_store.specs.Sparse.{after_taking, EndsBy}
-use Rattle.fb_store.specs.Runs.{sectors_of}
+use Rattle.fb_store.proofs.Words.{◌≡◌, ℕ, None, ◌^◌, take, nat_cmp, get, held_of, after_taking, EndsBy, sectors_of}
 use Rattle.fb_store.proofs.sparse.last_said.Given as goal
 
 abbrev pub invariant-loop-i : goal.invariant-loop-i

@@ -1,10 +1,4 @@
-use Rattle.std.proofs.Common.{ap, sym, ◌∙◌}
-use Rattle.std.proofs.lemmas.Result.{on_ok_weaker}
-use Rattle.std.specs.Ordering.{nat_cmp}
-use Rattle.std.specs.BTreeMap.{get}
-use Rattle.fb_store.specs.Ranges.{held_of}
-use Rattle.fb_store.specs.Sparse.{after_taking}
-use Rattle.fb_store.specs.Runs.{sectors_of}
+use Rattle.fb_store.proofs.Words.{ap, sym, ◌∙◌, on_ok_weaker, nat_cmp, get, held_of, after_taking, sectors_of}
 use Rattle.fb_store.proofs.Taken.{sectors_of-one}
 use Rattle.fb_store.proofs.sparse.take_runs.Goals as goal
 

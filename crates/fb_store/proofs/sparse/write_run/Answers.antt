@@ -1,7 +1,4 @@
-use Rattle.std.proofs.Common.{refl, ◌∙◌, arith}
-use Rattle.std.specs.Ordering.{nat_cmp}
-use Rattle.std.specs.BTreeMap.{get}
-use Rattle.fb_store.specs.Ranges.{held_of}
+use Rattle.fb_store.proofs.Words.{refl, ◌∙◌, arith, nat_cmp, get, held_of}
 use Rattle.fb_store.proofs.Taken.{taken_run}
 use Rattle.fb_store.proofs.sparse.write_run.Goals as goal
 

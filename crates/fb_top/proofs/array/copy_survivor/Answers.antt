@@ -1,8 +1,5 @@
-use Rattle.std.proofs.Common.{ℕ, sym, subst}
-use Rattle.std.specs.List.{AllByRecursion}
+use Rattle.fb_top.proofs.Words.{ℕ, sym, subst, AllByRecursion, array_terms, array_of, device_inputs}
 use Rattle.fb_mirror.specs.Replacement.{IsWithin, events}
-use Rattle.fb_words.specs.Verdict.{array_terms}
-use Rattle.fb_inputs.specs.Devices.{array_of, device_inputs}
 use Rattle.fb_top.proofs.array.copy_survivor.Goals as goal
 
 pub rebuild-requires-clause-ranges : goal.rebuild-requires-clause-ranges

@@ -1,12 +1,6 @@
-use Rattle.std.proofs.Common.{◌≤◌, ◌∙◌, ℕ, ◌<◌, sym, subst, inl}
-use Rattle.std.specs.Prelude.{IfSome}
-use Rattle.fb_words.specs.Verdict.{array_terms}
+use Rattle.fb_top.proofs.Words.{◌≤◌, ◌∙◌, ℕ, ◌<◌, sym, subst, inl, IfSome, array_terms, no_call, array_asks, Outcome, ArrayHasCause}
+use Rattle.fb_top.proofs.Words.{EndsAs}
 use Rattle.fb_top.proofs.Arrayed.{arrayed, at_texts, ran_out, runs_taken}
-use Rattle.fb_streams.proofs.Called.{no_call}
-use Rattle.fb_streams.specs.Called.{array_asks}
-use Rattle.fb_top.specs.declared.outcome.Outcome.{Outcome}
-use Rattle.fb_top.specs.Array.{ArrayHasCause}
-use Rattle.fb_top.specs.Ends.{EndsAs}
 use Rattle.fb_top.proofs.Ends.{unwritten_ends}
 use Rattle.fb_top.proofs.array.replay_array.Goals as goal
 

@@ -1,17 +1,8 @@
-use Rattle.std.proofs.Common.{◌≡◌, ◌∙◌, ℕ, [], ◌∷◌, ap, arith, length, refl, sym, subst, true}
+use Rattle.fb_top.proofs.Words.{◌≡◌, ◌∙◌, ℕ, [], ◌∷◌, ap, arith, length, refl, sym, subst, true, AllByRecursion, Calls, IsAccepted, IsFull}
+use Rattle.fb_top.proofs.Words.{Inputs, array_terms, CanTellFore, IsRunOfDevice, array_of, is_rebuilt_from, CanBeTold}
 use Rattle.std.proofs.lemmas.List.{length-append}
-use Rattle.std.specs.List.{AllByRecursion}
 use Rattle.fb_units.proofs.Lists.{all_push}
-use Rattle.fb_script.specs.declared.call.Calls.{Calls}
-use Rattle.fb_model.specs.Accepted.{IsAccepted}
-use Rattle.fb_model.specs.FullRun.{IsFull}
-use Rattle.fb_model.specs.Inputs.{Inputs}
 use Rattle.fb_trace.specs.Verdict.{accepted}
-use Rattle.fb_words.specs.Verdict.{array_terms}
-use Rattle.fb_texts.specs.Sections.{CanTellFore}
-use Rattle.fb_top.specs.Array.{IsRunOfDevice}
-use Rattle.fb_inputs.specs.Devices.{array_of, is_rebuilt_from}
-use Rattle.fb_top.specs.Done.{CanBeTold}
 use Rattle.fb_inputs.proofs.DeviceInputs.{handed_calls, handed_inputs, handed_names, trace_at}
 use Rattle.fb_texts.proofs.Each.{each_more}
 use Rattle.fb_top.proofs.array.replay_devices.Goals as goal

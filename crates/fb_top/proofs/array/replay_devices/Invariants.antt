@@ -1,12 +1,5 @@
-use Rattle.std.proofs.Common.{◌≡◌, ℕ, true, length, Some}
-use Rattle.std.specs.Prelude.{slice_get}
-use Rattle.std.specs.List.{AllByRecursion}
-use Rattle.fb_rows.specs.declared.run.Run.{Run}
-use Rattle.fb_words.specs.Verdict.{array_terms}
-use Rattle.fb_texts.specs.Sections.{CanTellFore}
-use Rattle.fb_top.specs.Array.{IsRunOfDevice}
-use Rattle.fb_inputs.specs.Devices.{array_of, is_rebuilt_from}
-use Rattle.fb_top.specs.Done.{CanBeTold}
+use Rattle.fb_top.proofs.Words.{◌≡◌, ℕ, true, length, Some, slice_get, AllByRecursion, Run, array_terms, CanTellFore, IsRunOfDevice}
+use Rattle.fb_top.proofs.Words.{array_of, is_rebuilt_from, CanBeTold}
 use Rattle.fb_top.proofs.array.replay_devices.Given as goal
 
 abbrev pub invariant-loop-trace : goal.invariant-loop-trace

@@ -1,13 +1,6 @@
-use Rattle.std.proofs.Common.{sym, subst}
-use Rattle.fb_words.specs.Verdict.{array_terms}
-use Rattle.fb_streams.specs.Called.{array_asks}
-use Rattle.fb_streams.proofs.Called.{then_ends}
-use Rattle.fb_inputs.specs.Devices.{array_of}
-use Rattle.fb_inputs.proofs.Account.{still_read}
+use Rattle.fb_top.proofs.Words.{sym, subst, array_terms, array_asks, then_ends, array_of, still_read, ArrayHasCause, EndsAs, failed_at}
+use Rattle.fb_top.proofs.Words.{Outcome}
 use Rattle.fb_inputs.proofs.Values.{each_counted}
-use Rattle.fb_top.specs.Array.{ArrayHasCause}
-use Rattle.fb_top.specs.Ends.{EndsAs, failed_at}
-use Rattle.fb_top.specs.declared.outcome.Outcome.{Outcome}
 use Rattle.fb_top.proofs.Arrayed.{array_stopped}
 use Rattle.fb_top.proofs.Ends.{unread_ends}
 use Rattle.fb_top.proofs.array.run_array.Goals as goal

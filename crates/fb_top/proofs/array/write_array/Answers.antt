@@ -1,18 +1,9 @@
-use Rattle.std.proofs.Common.{◌∙◌, List, ap, refl, sym, subst}
-use Rattle.std.specs.Option.{option_map}
-use Rattle.std.specs.Prelude.{codes, option_and_then, slice_get}
-use Rattle.std.proofs.lemmas.Result.{err_from_is_err_and}
-use Rattle.fb_desk.specs.declared.desk.Output.TheVariants.{Fore}
-use Rattle.fb_words.specs.Command.{RebuildTerms}
-use Rattle.fb_words.specs.Verdict.{array_terms, rebuild_terms}
-use Rattle.fb_inputs.specs.Devices.{array_of}
-use Rattle.fb_streams.proofs.Called.{then_result}
-use Rattle.fb_streams.specs.Called.{array_asks}
-use Rattle.fb_texts.specs.Ends.{failed_output}
+use Rattle.fb_top.proofs.Words.{◌∙◌, List, ap, refl, sym, subst, option_map, codes, slice_get, err_from_is_err_and, Fore, RebuildTerms}
+use Rattle.fb_top.proofs.Words.{array_terms, array_of, then_result, array_asks, failed_output, Text, WritesTexts, joined, one_text}
+use Rattle.fb_top.proofs.Words.{stopped_sooner, then_texts, rebuild_texts, survivor}
+use Rattle.std.specs.Prelude.{option_and_then}
+use Rattle.fb_words.specs.Verdict.{rebuild_terms}
 use Rattle.fb_texts.specs.Sections.{array_lines}
-use Rattle.fb_texts.specs.Written.{Text, WritesTexts, joined, one_text}
-use Rattle.fb_texts.proofs.Texts.{stopped_sooner, then_texts}
-use Rattle.fb_top.specs.Array.{rebuild_texts, survivor}
 use Rattle.fb_top.proofs.Arrayed.{is_from, rebuild_told, sections_apart}
 use Rattle.fb_top.proofs.array.write_array.Goals as goal
 

@@ -1,13 +1,6 @@
-use Rattle.std.proofs.Common.{List, ℕ, ◌∙◌, Some, ap, sym, subst}
-use Rattle.std.specs.String.{string_bytes}
-use Rattle.std.proofs.lemmas.Result.{err_from_is_err_and}
-use Rattle.fb_desk.specs.declared.desk.Output.TheVariants.{Back, Copied}
-use Rattle.fb_mirror.specs.Copy.{copy_lines}
-use Rattle.fb_report.specs.Back.{back_lines}
-use Rattle.fb_streams.proofs.Called.{then_result}
-use Rattle.fb_texts.specs.Ends.{failed_output}
-use Rattle.fb_texts.specs.Written.{StopsTexts, WritesAll, WritesTexts, joined, one_text}
-use Rattle.fb_texts.proofs.Texts.{stopped_sooner, then_texts}
+use Rattle.fb_top.proofs.Words.{List, ℕ, ◌∙◌, Some, ap, sym, subst, string_bytes, err_from_is_err_and, Back, Copied, copy_lines}
+use Rattle.fb_top.proofs.Words.{back_lines, then_result, failed_output, StopsTexts, WritesAll, WritesTexts, joined, one_text}
+use Rattle.fb_top.proofs.Words.{stopped_sooner, then_texts}
 use Rattle.fb_top.proofs.array.write_rebuild.Goals as goal
 
 pub returns-in_err-write_lines-clause-texts : goal.returns-in_err-write_lines-clause-texts

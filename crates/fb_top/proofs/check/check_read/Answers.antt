@@ -1,12 +1,5 @@
-use Rattle.std.proofs.Common.{refl, sym, subst, ◌∙◌}
-use Rattle.fb_words.specs.Verdict.{check_terms}
-use Rattle.fb_streams.specs.Called.{check_asks}
-use Rattle.fb_streams.proofs.Called.{then_calls, then_ends}
-use Rattle.fb_inputs.proofs.Account.{still_read}
-use Rattle.fb_texts.specs.Ends.{failed_output}
-use Rattle.fb_top.specs.Causes.{CheckHasCause}
-use Rattle.fb_top.specs.Ends.{EndsAs}
-use Rattle.fb_top.specs.declared.outcome.Outcome.{Outcome}
+use Rattle.fb_top.proofs.Words.{refl, sym, subst, ◌∙◌, check_terms, check_asks, then_calls, then_ends, still_read, failed_output}
+use Rattle.fb_top.proofs.Words.{CheckHasCause, EndsAs, Outcome}
 use Rattle.fb_top.proofs.Checking.{check_stopped, line_stopped, line_written, read_then, verdict_taken}
 use Rattle.fb_top.proofs.Ends.{unread_ends, unwritten_ends}
 use Rattle.fb_top.proofs.check.check_read.Goals as goal

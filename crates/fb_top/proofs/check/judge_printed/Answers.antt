@@ -1,17 +1,11 @@
-use Rattle.std.proofs.Common.{ℕ, List, Some, None, ◌∙◌, ap, arith, inl, inr, refl, rules, sym, subst}
-use Rattle.std.proofs.lemmas.Result.{IfErr-weaker, err_from_is_err_and}
-use Rattle.fb_desk.specs.declared.desk.Input.TheVariants.{ForeReport, BackReport}
-use Rattle.fb_report.specs.Grammar.{fore_grammar, report_of}
-use Rattle.fb_words.specs.Verdict.{check_terms}
-use Rattle.fb_streams.specs.Called.{check_asks}
-use Rattle.fb_streams.specs.Names.{check_names}
+use Rattle.fb_top.proofs.Words.{ℕ, List, Some, None, ◌∙◌, ap, arith, inl, inr, refl, rules, sym, subst, err_from_is_err_and, ForeReport}
+use Rattle.fb_top.proofs.Words.{BackReport, fore_grammar, report_of, check_terms, check_asks, check_names, failed_input, IsHeld}
+use Rattle.fb_top.proofs.Words.{ReadsReport, RefusesReport, files_of, and_then, ends_at, read_named}
+use Rattle.std.proofs.lemmas.Result.{IfErr-weaker}
 use Rattle.fb_inputs.specs.Account.{failed_in}
 use Rattle.fb_inputs.specs.Causes.{StopsReport}
-use Rattle.fb_inputs.specs.Ends.{failed_input}
 use Rattle.fb_inputs.specs.declared.error.InputsError.TheVariants as faults
-use Rattle.fb_streams.specs.Streams.{IsHeld}
-use Rattle.fb_inputs.specs.Read.{ReadsReport, RefusesReport, files_of}
-use Rattle.fb_inputs.proofs.Account.{and_then, ends_at, ends_in, ends_then, read_named, up_to}
+use Rattle.fb_inputs.proofs.Account.{ends_in, ends_then, up_to}
 use Rattle.fb_inputs.proofs.Later.{at_report}
 use Rattle.fb_top.proofs.Checking.{report_before}
 use Rattle.fb_top.proofs.check.judge_printed.Goals as goal

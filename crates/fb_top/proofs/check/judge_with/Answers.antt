@@ -1,10 +1,5 @@
-use Rattle.std.proofs.Common.{rules, sym, subst}
-use Rattle.fb_script.specs.declared.call.Calls.{Calls}
-use Rattle.fb_model.specs.Accepted.{IsAccepted}
-use Rattle.fb_model.specs.Inputs.{Inputs}
+use Rattle.fb_top.proofs.Words.{rules, sym, subst, Calls, IsAccepted, Inputs, IsVerdict, key_of}
 use Rattle.fb_decide.specs.RunInputs.{inputs_of}
-use Rattle.fb_check.specs.Verdict.{IsVerdict}
-use Rattle.fb_inputs.specs.Read.{key_of}
 use Rattle.fb_top.proofs.check.judge_with.Goals as goal
 
 pub judge_by-requires-clause-fit : goal.judge_by-requires-clause-fit

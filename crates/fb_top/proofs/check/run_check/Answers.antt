@@ -1,17 +1,9 @@
-use Rattle.std.proofs.Common.{◌∙◌, ap, arith, refl, sym, subst}
-use Rattle.fb_desk.specs.View.{InputView, OutputView}
-use Rattle.fb_desk.specs.declared.desk.Output.TheVariants.{Fore, Note}
-use Rattle.fb_desk.specs.declared.desk.Input.TheVariants.{ForeReport, BackReport}
-use Rattle.fb_words.specs.Verdict.{check_terms}
-use Rattle.fb_streams.specs.Called.{AsksFiles, check_asks}
-use Rattle.fb_streams.specs.Names.{FileNames, check_names}
-use Rattle.fb_streams.proofs.Called.{then_ends}
-use Rattle.fb_inputs.specs.Read.{Accepts, files_of, key_of}
+use Rattle.fb_top.proofs.Words.{◌∙◌, ap, arith, refl, sym, subst, OutputView, Fore, Note, ForeReport, BackReport, check_terms, check_asks}
+use Rattle.fb_top.proofs.Words.{FileNames, check_names, then_ends, Accepts, files_of, key_of, CheckHasCause, EndsAs, failed_at, TakesCheck}
+use Rattle.fb_top.proofs.Words.{Outcome}
+use Rattle.fb_desk.specs.View.{InputView}
+use Rattle.fb_streams.specs.Called.{AsksFiles}
 use Rattle.fb_inputs.specs.Reading.{file_names}
-use Rattle.fb_top.specs.Causes.{CheckHasCause}
-use Rattle.fb_top.specs.Ends.{EndsAs, failed_at}
-use Rattle.fb_top.specs.Taken.{TakesCheck}
-use Rattle.fb_top.specs.declared.outcome.Outcome.{Outcome}
 use Rattle.fb_top.proofs.Checking.{check_stopped}
 use Rattle.fb_top.proofs.Ends.{unread_ends}
 use Rattle.fb_top.proofs.check.run_check.Given as given

@@ -1,6 +1,4 @@
-use Rattle.std.proofs.Common.{◌++◌, refl}
-use Rattle.std.specs.Prelude.{codes}
-use Rattle.fb_texts.proofs.LineEnds.{text_ends}
+use Rattle.fb_top.proofs.Words.{◌++◌, refl, codes, text_ends}
 use Rattle.fb_top.specs.Verdicts.{verdict_line, verdict_text}
 use Rattle.fb_top.proofs.check.write_verdict.Goals as goal
 

@@ -1,8 +1,4 @@
-use Rattle.std.proofs.Common.{◌∙◌, Global, Ok, ap, map, subst, sym}
-use Rattle.std.specs.String.{string_bytes}
-use Rattle.fb_words.specs.Verdict.{terms}
-use Rattle.fb_inputs.specs.Account.{AreReadAs}
-use Rattle.fb_top.specs.Ends.{EndsAs}
+use Rattle.fb_top.proofs.Words.{◌∙◌, Global, Ok, ap, map, subst, sym, string_bytes, terms, AreReadAs, EndsAs}
 use Rattle.fb_streams.specs.Called.{asked_by}
 use Rattle.fb_top.proofs.Together.{of_command}
 use Rattle.fb_top.proofs.command.answer_words.Goals as goal

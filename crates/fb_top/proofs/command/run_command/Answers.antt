@@ -1,6 +1,4 @@
-use Rattle.std.proofs.Common.{Global, map}
-use Rattle.std.specs.String.{string_bytes}
-use Rattle.fb_words.specs.Command.{command_of}
+use Rattle.fb_top.proofs.Words.{Global, map, string_bytes, command_of}
 use Rattle.fb_top.proofs.Completeness.{complete}
 use Rattle.fb_top.proofs.command.run_command.Goals as goal
 

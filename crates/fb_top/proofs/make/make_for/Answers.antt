@@ -1,12 +1,5 @@
-use Rattle.std.proofs.Common.{arith, length, refl, subst, sym}
-use Rattle.fb_geometry.specs.Places.{places}
-use Rattle.fb_geometry.specs.Sound.{IsSound}
-use Rattle.fb_maker.proofs.ScriptRead.{some_sectors}
-use Rattle.fb_words.specs.Verdict.{make_terms}
-use Rattle.fb_streams.specs.Called.{make_asks}
-use Rattle.fb_top.specs.declared.outcome.Outcome.{Outcome}
-use Rattle.fb_top.specs.Ends.{EndsAs}
-use Rattle.fb_top.specs.Make.{MakeHasCause}
+use Rattle.fb_top.proofs.Words.{arith, length, refl, subst, sym, places, IsSound, some_sectors, make_terms, make_asks, Outcome, EndsAs}
+use Rattle.fb_top.proofs.Words.{MakeHasCause}
 use Rattle.fb_top.proofs.Ends.{unwritten_ends}
 use Rattle.fb_top.proofs.Making.{make_stopped, wrote_both}
 use Rattle.fb_top.proofs.make.make_for.Goals as goal

@@ -1,15 +1,5 @@
-use Rattle.std.proofs.Common.{List, Some, None, ap, sym, ℕ, subst}
-use Rattle.fb_desk.specs.declared.desk.Input.TheVariants.{Params}
-use Rattle.fb_words.specs.Verdict.{make_terms}
-use Rattle.fb_streams.specs.Called.{make_asks}
-use Rattle.fb_streams.proofs.Called.{then_ends}
-use Rattle.fb_inputs.specs.Causes.{StopsDisk}
-use Rattle.fb_inputs.specs.Ends.{failed_input}
-use Rattle.fb_inputs.specs.Read.{ReadsDisk}
-use Rattle.fb_inputs.proofs.Account.{read_named, still_read}
-use Rattle.fb_top.specs.Ends.{EndsAs, failed_at}
-use Rattle.fb_top.specs.Make.{MakeHasCause}
-use Rattle.fb_top.specs.declared.outcome.Outcome.{Outcome}
+use Rattle.fb_top.proofs.Words.{List, Some, None, ap, sym, ℕ, subst, Params, make_terms, make_asks, then_ends, StopsDisk, failed_input}
+use Rattle.fb_top.proofs.Words.{ReadsDisk, read_named, still_read, EndsAs, failed_at, MakeHasCause, Outcome}
 use Rattle.fb_top.proofs.Ends.{unread_ends}
 use Rattle.fb_top.proofs.Making.{disk_stopped}
 use Rattle.fb_top.proofs.make.run_make.Goals as goal

@@ -1,17 +1,9 @@
-use Rattle.std.proofs.Common.{List, ℕ, Some, ap, arith, subst, sym}
-use Rattle.std.proofs.lemmas.Result.{err_from_is_err_and}
-use Rattle.fb_desk.specs.declared.desk.Output.TheVariants.{MadeTrace, MadeCalls}
-use Rattle.fb_maker.specs.Script.{script_text}
+use Rattle.fb_top.proofs.Words.{List, ℕ, Some, ap, arith, subst, sym, err_from_is_err_and, MadeTrace, script_text, some_sectors}
+use Rattle.fb_top.proofs.Words.{make_terms, then_result, make_asks, failed_output, StopsTexts, WritesAll, WritesTexts, one_text}
+use Rattle.fb_top.proofs.Words.{stopped_sooner, then_texts, text_ends}
+use Rattle.fb_desk.specs.declared.desk.Output.TheVariants.{MadeCalls}
 use Rattle.fb_maker.specs.Trace.{made_trace}
-use Rattle.fb_maker.proofs.ScriptRead.{some_sectors}
-use Rattle.fb_words.specs.Verdict.{make_terms}
-use Rattle.fb_streams.proofs.Called.{then_result}
-use Rattle.fb_streams.specs.Called.{make_asks}
-use Rattle.fb_texts.specs.Ends.{failed_output}
-use Rattle.fb_texts.specs.Written.{StopsTexts, WritesAll, WritesTexts, one_text}
-use Rattle.fb_texts.proofs.Texts.{stopped_sooner, then_texts}
 use Rattle.fb_top.specs.Make.{trace_text}
-use Rattle.fb_texts.proofs.LineEnds.{text_ends}
 use Rattle.fb_top.proofs.LineEnds.{script_ends}
 use Rattle.fb_top.proofs.make.write_both.Goals as goal
 

@@ -1,12 +1,6 @@
-use Rattle.std.proofs.Common.{◌≡◌, ◌∙◌, ◌+◌, ap, arith, subst, sym}
-use Rattle.std.specs.Prelude.{Some, slice_get}
-use Rattle.std.specs.String.{string_bytes}
-use Rattle.std.proofs.lemmas.Result.{err_from_is_err_and}
-use Rattle.fb_desk.specs.declared.desk.Output.TheVariants.{MadeTrace}
-use Rattle.fb_maker.specs.Making.{Making, line_made}
-use Rattle.fb_maker.specs.Trace.{made_lines}
-use Rattle.fb_streams.specs.Called.{EndsLine}
-use Rattle.fb_texts.specs.Written.{joined}
+use Rattle.fb_top.proofs.Words.{◌≡◌, ◌∙◌, ◌+◌, ap, arith, subst, sym, slice_get, string_bytes, err_from_is_err_and, MadeTrace, Making}
+use Rattle.fb_top.proofs.Words.{line_made, made_lines, EndsLine, joined}
+use Rattle.std.specs.Prelude.{Some}
 use Rattle.fb_texts.proofs.Pieces.{all_lines, line_stops, next_line}
 use Rattle.fb_texts.proofs.Texts.{wrote_one}
 use Rattle.fb_top.proofs.LineEnds.{made_line_ends}

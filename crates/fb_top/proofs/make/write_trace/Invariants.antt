@@ -1,8 +1,4 @@
-use Rattle.std.proofs.Common.{◌≡◌, take}
-use Rattle.std.specs.String.{string_bytes}
-use Rattle.fb_desk.specs.declared.desk.Output.TheVariants.{MadeTrace}
-use Rattle.fb_maker.specs.Trace.{made_lines}
-use Rattle.fb_texts.specs.Written.{joined}
+use Rattle.fb_top.proofs.Words.{◌≡◌, take, string_bytes, MadeTrace, made_lines, joined}
 use Rattle.fb_texts.specs.Writing.{HasWritten}
 use Rattle.fb_top.proofs.make.write_trace.Given as goal
 

@@ -1,13 +1,7 @@
-use Rattle.std.proofs.Common.{◌≢◌, ◌∙◌, [], List, ℕ, inl, refl, rules, subst, sym, true}
-use Rattle.std.specs.Prelude.{codes}
-use Rattle.fb_desk.specs.View.{begins}
-use Rattle.fb_desk.specs.declared.desk.Output.TheVariants.{Note}
-use Rattle.fb_streams.proofs.Called.{one_call}
+use Rattle.fb_top.proofs.Words.{◌≢◌, ◌∙◌, [], List, ℕ, inl, refl, rules, subst, sym, true, codes, begins, Note, one_call, EndsLine}
+use Rattle.fb_top.proofs.Words.{asks_note, note_of}
 use Rattle.fb_streams.proofs.Pieces.{output_on}
-use Rattle.fb_streams.specs.Called.{EndsLine}
 use Rattle.fb_texts.proofs.Pieces.{same_name}
-use Rattle.fb_top.specs.Noted.{asks_note}
-use Rattle.fb_top.specs.Notes.{note_of}
 use Rattle.fb_top.proofs.LineEnds.{note_ends}
 use Rattle.fb_top.proofs.Noted.{note_begun, note_made, note_written, rose_on}
 use Rattle.fb_top.proofs.noting.begin_note.Goals as goal

@@ -1,22 +1,9 @@
-use Rattle.std.proofs.Common.{◌≡◌, ◌∙◌, Option, length, inl, sym, subst}
-use Rattle.fb_bgwrite.specs.declared.items.SpillRun.{SpillRun}
+use Rattle.fb_top.proofs.Words.{◌≡◌, ◌∙◌, Option, length, inl, sym, subst, SpillRun, Calls, IsAccepted, IsFull, Inputs, replay_terms}
+use Rattle.fb_top.proofs.Words.{Outcome, HasCause, files_of, inputs_of_files, key_of, CanBeTold, StopsTexts, WritesAll, replay_texts}
+use Rattle.fb_top.proofs.Words.{no_call, EndsAs, replay_asks}
 use Rattle.fb_script.specs.Allowed.{tasks}
-use Rattle.fb_script.specs.declared.call.Calls.{Calls}
-use Rattle.fb_model.specs.Accepted.{IsAccepted}
-use Rattle.fb_model.specs.FullRun.{IsFull}
-use Rattle.fb_model.specs.Inputs.{Inputs}
-use Rattle.fb_words.specs.Verdict.{replay_terms}
-use Rattle.fb_top.specs.declared.outcome.Outcome.{Outcome}
-use Rattle.fb_top.specs.Causes.{HasCause}
-use Rattle.fb_inputs.specs.Read.{files_of, inputs_of_files, key_of}
-use Rattle.fb_top.specs.Done.{CanBeTold}
-use Rattle.fb_texts.specs.Written.{StopsTexts, WritesAll}
-use Rattle.fb_top.specs.Spilled.{replay_texts}
 use Rattle.fb_top.proofs.Spills.{all_written, at_replay, replay_ran_out}
 use Rattle.fb_top.proofs.Ends.{done_ends, unwritten_ends}
-use Rattle.fb_streams.proofs.Called.{no_call}
-use Rattle.fb_top.specs.Ends.{EndsAs}
-use Rattle.fb_streams.specs.Called.{replay_asks}
 use Rattle.fb_top.proofs.replay.replay_and_write.Given as given
 use Rattle.fb_top.proofs.replay.replay_and_write.Goals as goal
 use Rattle.fb_top.proofs.replay.replay_and_write.Goals.{In-Ok}

@@ -1,11 +1,4 @@
-use Rattle.std.proofs.Common.{sym, subst}
-use Rattle.fb_words.specs.Verdict.{replay_terms}
-use Rattle.fb_streams.specs.Called.{replay_asks}
-use Rattle.fb_streams.proofs.Called.{then_ends}
-use Rattle.fb_inputs.proofs.Account.{still_read}
-use Rattle.fb_top.specs.Causes.{HasCause}
-use Rattle.fb_top.specs.Ends.{EndsAs, failed_at}
-use Rattle.fb_top.specs.declared.outcome.Outcome.{Outcome}
+use Rattle.fb_top.proofs.Words.{sym, subst, replay_terms, replay_asks, then_ends, still_read, HasCause, EndsAs, failed_at, Outcome}
 use Rattle.fb_top.proofs.Ends.{replay_stopped, unread_ends}
 use Rattle.fb_top.proofs.replay.run_replay.Goals as goal
 

@@ -1,14 +1,5 @@
-use Rattle.std.proofs.Common.{Option, ap, refl, sym, subst}
-use Rattle.std.specs.Option.{option_map}
-use Rattle.std.proofs.lemmas.Result.{err_from_is_err_and}
-use Rattle.fb_bgwrite.specs.declared.items.SpillRun.{SpillRun}
-use Rattle.fb_words.specs.Verdict.{replay_terms}
-use Rattle.fb_inputs.specs.Read.{files_of}
-use Rattle.fb_streams.proofs.Called.{then_result}
-use Rattle.fb_streams.specs.Called.{replay_asks}
-use Rattle.fb_texts.specs.Ends.{failed_output}
-use Rattle.fb_texts.specs.Written.{WritesTexts}
-use Rattle.fb_top.specs.Spilled.{replay_texts}
+use Rattle.fb_top.proofs.Words.{Option, ap, refl, sym, subst, option_map, err_from_is_err_and, SpillRun, replay_terms, files_of}
+use Rattle.fb_top.proofs.Words.{then_result, replay_asks, failed_output, WritesTexts, replay_texts}
 use Rattle.fb_top.proofs.Spills.{reports_stopped, then_spill}
 use Rattle.fb_top.proofs.replay.write_replay.Goals as goal
 

@@ -1,8 +1,4 @@
-use Rattle.std.proofs.Common.{refl}
-use Rattle.fb_words.specs.Verdict.{replay_terms}
-use Rattle.fb_streams.specs.Called.{replay_asks}
-use Rattle.fb_report.specs.Summary.{summary_text}
-use Rattle.fb_texts.proofs.LineEnds.{text_ends}
+use Rattle.fb_top.proofs.Words.{refl, replay_terms, replay_asks, summary_text, text_ends}
 use Rattle.fb_top.proofs.LineEnds.{summary_ends}
 use Rattle.fb_top.proofs.report.write_fore.Goals as goal
 

@@ -1,15 +1,6 @@
-use Rattle.std.proofs.Common.{◌≢◌, refl}
-use Rattle.std.specs.Prelude.{codes}
-use Rattle.std.proofs.lemmas.Result.{err_from_is_err_and}
-use Rattle.fb_desk.specs.declared.desk.Output.TheVariants.{Back, Fore}
-use Rattle.fb_words.specs.Verdict.{replay_terms}
-use Rattle.fb_inputs.specs.Read.{files_of}
-use Rattle.fb_streams.proofs.Called.{then_result}
-use Rattle.fb_streams.specs.Called.{replay_asks}
-use Rattle.fb_texts.specs.Ends.{failed_output}
-use Rattle.fb_texts.specs.Written.{given_text, one_text}
-use Rattle.fb_texts.proofs.Texts.{all_given, stopped_sooner, then_texts}
-use Rattle.fb_top.specs.Done.{back_told, fore_told}
+use Rattle.fb_top.proofs.Words.{◌≢◌, refl, codes, err_from_is_err_and, Back, Fore, replay_terms, files_of, then_result, replay_asks}
+use Rattle.fb_top.proofs.Words.{failed_output, given_text, one_text, all_given, stopped_sooner, then_texts, back_told}
+use Rattle.fb_top.specs.Done.{fore_told}
 use Rattle.fb_top.proofs.report.write_reports.Goals as goal
 
 pub returns-in_err-write_fore-clause-texts : goal.returns-in_err-write_fore-clause-texts

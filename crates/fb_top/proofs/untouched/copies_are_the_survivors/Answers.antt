@@ -1,10 +1,5 @@
-use Rattle.std.proofs.Common.{◌≡◌, ◌∙◌, Option, ap, sym}
-use Rattle.std.specs.Option.{option_map}
-use Rattle.fb_mirror.specs.Script.{rebuild_calls}
-use Rattle.fb_mirror.specs.declared.rebuilt.Rebuilt.{Rebuilt}
-use Rattle.fb_words.specs.Command.{RebuildTerms}
-use Rattle.fb_top.specs.Array.{replacement, sectors_of, survivor}
-use Rattle.fb_inputs.specs.Devices.{device_inputs}
+use Rattle.fb_top.proofs.Words.{◌≡◌, ◌∙◌, Option, ap, sym, option_map, rebuild_calls, Rebuilt, RebuildTerms, replacement, sectors_of}
+use Rattle.fb_top.proofs.Words.{survivor, device_inputs}
 use Rattle.fb_top.proofs.Arrayed.{one_copy}
 use Rattle.fb_top.proofs.OneSection.{calls_of_device}
 use Rattle.fb_top.proofs.untouched.copies_are_the_survivors.Goals as goal

@@ -1,8 +1,4 @@
-use Rattle.std.proofs.Common.{ℕ, sym, subst}
-use Rattle.fb_model.specs.FullRun.{IsFull}
-use Rattle.fb_words.specs.declared.command.Policy.{Policy}
-use Rattle.fb_streams.specs.Names.{FileNames, replay_file_names}
-use Rattle.fb_inputs.specs.Read.{Accepts, Files, inputs_of_files, key_of}
+use Rattle.fb_top.proofs.Words.{ℕ, sym, subst, IsFull, Policy, FileNames, replay_file_names, Accepts, Files, inputs_of_files, key_of}
 use Rattle.fb_top.proofs.OneRun.{one_reading}
 use Rattle.fb_top.proofs.untouched.inputs_have_one_run.Goals as goal
 

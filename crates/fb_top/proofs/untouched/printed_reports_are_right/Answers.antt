@@ -1,18 +1,9 @@
-use Rattle.std.proofs.Common.{List, ℕ, Option, ap, sym, subst}
-use Rattle.std.specs.Prelude.{Bool, Ok, IfSome, codes, is_some, if◌then◌else◌}
-use Rattle.fb_report.specs.declared.bytes.Bytes.{Bytes}
-use Rattle.fb_report.specs.Back.{back_lines}
-use Rattle.fb_report.specs.Fore.{fore_lines, fore_text}
-use Rattle.fb_report.specs.Grammar.{back_grammar, fore_grammar}
-use Rattle.fb_report.specs.Printed.{IsReadBack}
-use Rattle.fb_report.specs.Summary.{summary_text}
-use Rattle.fb_desk.specs.declared.desk.Output.TheVariants.{Back, Fore}
-use Rattle.fb_words.specs.Command.{checks}
-use Rattle.fb_top.specs.Done.{back_told}
-use Rattle.fb_inputs.specs.Read.{Accepts}
-use Rattle.fb_streams.specs.Names.{FileNames, check_file_names}
-use Rattle.fb_top.specs.Untouched.{HoldFilesAlike, HoldsLines, HoldsOwnReports}
-use Rattle.fb_texts.specs.Written.{HoldsTexts, HoldsWhole, given_text}
+use Rattle.fb_top.proofs.Words.{List, ℕ, Option, ap, sym, subst, Bool, IfSome, codes, is_some, if◌then◌else◌, Bytes, back_lines}
+use Rattle.fb_top.proofs.Words.{fore_lines, fore_text, back_grammar, fore_grammar, IsReadBack, summary_text, Back, Fore, checks, back_told}
+use Rattle.fb_top.proofs.Words.{Accepts, FileNames, HoldFilesAlike, HoldsLines, HoldsTexts, HoldsWhole, given_text}
+use Rattle.std.specs.Prelude.{Ok}
+use Rattle.fb_streams.specs.Names.{check_file_names}
+use Rattle.fb_top.specs.Untouched.{HoldsOwnReports}
 use Rattle.fb_top.proofs.Completeness.{complete}
 use Rattle.fb_top.proofs.Printed.{accepted_there, answers_yes, held_lines, prints, told_lines}
 use Rattle.fb_top.proofs.untouched.printed_reports_are_right.Goals as goal

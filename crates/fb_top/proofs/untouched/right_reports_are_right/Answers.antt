@@ -1,13 +1,6 @@
-use Rattle.std.proofs.Common.{◌≡◌, ℕ, sym, subst}
-use Rattle.fb_model.specs.FullRun.{IsFull}
-use Rattle.fb_report.specs.Back.{back_lines}
-use Rattle.fb_report.specs.Fore.{fore_lines}
-use Rattle.fb_report.specs.Grammar.{back_grammar, fore_grammar, spelled}
-use Rattle.fb_check.specs.Verdict.{Reports}
-use Rattle.fb_words.specs.declared.command.Policy.{Policy}
+use Rattle.fb_top.proofs.Words.{◌≡◌, ℕ, sym, subst, IsFull, back_lines, fore_lines, back_grammar, fore_grammar, spelled, Reports, Policy}
+use Rattle.fb_top.proofs.Words.{Accepts, Files, inputs_of_files, key_of, FileNames, replay_file_names}
 use Rattle.std.specs.Prelude.{map}
-use Rattle.fb_inputs.specs.Read.{Accepts, Files, inputs_of_files, key_of}
-use Rattle.fb_streams.specs.Names.{FileNames, replay_file_names}
 use Rattle.fb_top.proofs.OneRun.{one_reading}
 use Rattle.fb_top.proofs.RightReports.{is_yes, read_as}
 use Rattle.fb_top.proofs.untouched.right_reports_are_right.Goals as goal

@@ -1,5 +1,4 @@
-use Rattle.std.proofs.Common.{ap, sym, ◌∙◌}
-use Rattle.fb_inputs.specs.Read.{inputs_of_files, key_of}
+use Rattle.fb_top.proofs.Words.{ap, sym, ◌∙◌, inputs_of_files, key_of}
 use Rattle.fb_top.proofs.SameText.{same_text}
 use Rattle.fb_top.proofs.untouched.scripts_leave_the_foreground.Goals as goal
 

@@ -1,14 +1,9 @@
-use Rattle.std.proofs.Common.{List, ℕ, Option, length, ap, refl, sym, subst, ◌∙◌}
-use Rattle.std.specs.Prelude.{◌≡◌, ◌++◌, ◌==◌, Bool, if◌then◌else◌}
+use Rattle.fb_top.proofs.Words.{List, ℕ, Option, length, ap, refl, sym, subst, ◌∙◌, Bool, if◌then◌else◌, promoted, Bytes, fore_text}
+use Rattle.fb_top.proofs.Words.{summary_text, device_inputs, ReadsDisk, ReadsScript, ReadsTrace, inputs_of_files, key_of}
+use Rattle.std.specs.Prelude.{◌≡◌, ◌++◌, ◌==◌}
 use Rattle.std.specs.List.{list_any}
 use Rattle.fb_calls.specs.Reading.{Accepted as Script}
-use Rattle.fb_model.specs.Foreground.{promoted}
-use Rattle.fb_report.specs.declared.bytes.Bytes.{Bytes}
-use Rattle.fb_report.specs.Fore.{fore_text}
-use Rattle.fb_report.specs.Summary.{summary_text}
 use Rattle.fb_texts.specs.Sections.{device_line}
-use Rattle.fb_inputs.specs.Devices.{device_inputs}
-use Rattle.fb_inputs.specs.Read.{ReadsDisk, ReadsScript, ReadsTrace, inputs_of_files, key_of}
 use Rattle.fb_top.proofs.OneRun.{one_disk, one_trace, one_value}
 use Rattle.fb_top.proofs.OneSection.{device_reads, devices_promote_none}
 use Rattle.fb_top.proofs.SameText.{same_text}

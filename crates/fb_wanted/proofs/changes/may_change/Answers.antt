@@ -1,6 +1,4 @@
-use Rattle.std.proofs.Common.{◌≡◌, ap, arith}
-use Rattle.std.proofs.lemmas.Bool.Decides.{nat_tests}
-use Rattle.fb_wanted.specs.declared.block.Change.TheVariants.{Abort, Suspend, Resume}
+use Rattle.fb_wanted.proofs.Words.{◌≡◌, ap, arith, nat_tests, Abort, Suspend, Resume}
 use Rattle.fb_wanted.proofs.Unchanged.{none_open, none_delivered, open_aborted, open_suspended, open_resumed}
 use Rattle.fb_wanted.proofs.changes.may_change.Goals as goal
 

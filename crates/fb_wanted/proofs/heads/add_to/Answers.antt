@@ -1,9 +1,5 @@
-use Rattle.std.proofs.Common.{ap, ◌∙◌, length, get_or, set, arith}
-use Rattle.std.proofs.lemmas.List.{length_push, set-get_or}
-use Rattle.std.proofs.lemmas.Result.{IfOk-from_err}
-use Rattle.fb_units.proofs.Changed.{one_blank_more, one_changed}
-use Rattle.fb_units.proofs.Lists.{on_err}
-use Rattle.fb_wanted.specs.LookUp.{no_block_on, grown}
+use Rattle.fb_wanted.proofs.Words.{ap, ◌∙◌, length, get_or, set, arith, length_push, set-get_or, IfOk-from_err, one_blank_more}
+use Rattle.fb_wanted.proofs.Words.{one_changed, on_err, no_block_on, grown}
 use Rattle.fb_wanted.proofs.heads.add_to.Goals as goal
 
 pub loop-preserved : goal.loop-preserved

@@ -1,7 +1,4 @@
-use Rattle.std.proofs.Common.{◌≡◌, ◌∙◌, max, ap, arith, get_or, inl, inr}
-use Rattle.std.proofs.lemmas.Bool.{cases_lt}
-use Rattle.std.proofs.lemmas.List.{get_or_default}
-use Rattle.fb_wanted.specs.LookUp.{no_block_on}
+use Rattle.fb_wanted.proofs.Words.{◌≡◌, ◌∙◌, max, ap, arith, get_or, inl, inr, cases_lt, get_or_default, no_block_on}
 use Rattle.fb_wanted.proofs.heads.greatest.Goals as goal
 
 pub loop-i-preserved : goal.loop-i-preserved

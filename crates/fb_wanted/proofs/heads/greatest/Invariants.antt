@@ -1,5 +1,4 @@
-use Rattle.std.proofs.Common.{◌<◌, ◌≤◌, ℕ, get_or}
-use Rattle.fb_wanted.specs.LookUp.{no_block_on}
+use Rattle.fb_wanted.proofs.Words.{◌<◌, ◌≤◌, ℕ, get_or, no_block_on}
 use Rattle.fb_wanted.proofs.heads.greatest.Given as goal
 
 -- the greatest of those seen

@@ -1,5 +1,4 @@
-use Rattle.std.proofs.Common.{◌<◌, ◌≤◌, ℕ, length, get_or}
-use Rattle.fb_wanted.specs.LookUp.{no_block_on}
+use Rattle.fb_wanted.proofs.Words.{◌<◌, ◌≤◌, ℕ, length, get_or, no_block_on}
 use Rattle.fb_wanted.proofs.heads.next_with_block.Given as goal
 
 -- none of the heads seen has a block

@@ -1,5 +1,4 @@
-use Rattle.std.proofs.Common.{◌*◌, ◌+◌, ◌-◌, length}
-use Rattle.fb_wanted.specs.LookUp.{NoneIsBetween}
+use Rattle.fb_wanted.proofs.Words.{◌*◌, ◌+◌, ◌-◌, length, NoneIsBetween}
 use Rattle.fb_wanted.proofs.next.first_from.Given as goal
 
 -- none of the bands before has a block on the cylinders from `start` on

@@ -1,6 +1,5 @@
-use Rattle.std.proofs.Common.{◌<◌, ◌∙◌, ap, sym, subst, refl, length, get_or, arith}
-use Rattle.std.proofs.lemmas.Option.{slice_get-get_or, slice_get_read}
-use Rattle.fb_wanted.specs.LookUp.{offers_at, with_state, AreOffered}
+use Rattle.fb_wanted.proofs.Words.{◌<◌, ◌∙◌, ap, sym, subst, refl, length, get_or, arith, slice_get-get_or, slice_get_read, offers_at}
+use Rattle.fb_wanted.proofs.Words.{with_state, AreOffered}
 use Rattle.fb_wanted.proofs.Numbers.{small_at}
 use Rattle.fb_wanted.proofs.Offering.{own_within, moved_there, offered_taken, offered_given, offered_alike}
 use Rattle.fb_wanted.proofs.Offering.{offers-few, offers-room, no_entry}

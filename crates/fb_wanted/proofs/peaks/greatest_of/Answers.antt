@@ -1,5 +1,4 @@
-use Rattle.std.proofs.Common.{◌≡◌, ap, arith, get_or, inl, inr}
-use Rattle.std.proofs.lemmas.Bool.{cases_lt}
+use Rattle.fb_wanted.proofs.Words.{◌≡◌, ap, arith, get_or, inl, inr, cases_lt}
 use Rattle.fb_wanted.proofs.peaks.greatest_of.Goals as goal
 
 pub loop-i-preserved : goal.loop-i-preserved

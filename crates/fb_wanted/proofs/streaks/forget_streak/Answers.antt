@@ -1,7 +1,4 @@
-use Rattle.std.proofs.Common.{◌∙◌, sym, inl, inr}
-use Rattle.std.specs.BTreeMap.{is_at}
-use Rattle.std.specs.BTreeSet.{contains}
-use Rattle.fb_wanted.specs.LookUp.{streak_cmp, key_of}
+use Rattle.fb_wanted.proofs.Words.{◌∙◌, sym, inl, inr, is_at, contains, streak_cmp, key_of}
 use Rattle.fb_wanted.proofs.Keys.{unless_taken, if_taken, same_key}
 use Rattle.fb_wanted.proofs.streaks.forget_streak.Goals as goal
 

@@ -1,11 +1,8 @@
-use Rattle.std.proofs.Common.{◌≡◌, subst, false, inl, inr, IfSome}
+use Rattle.fb_wanted.proofs.Words.{◌≡◌, subst, false, inl, inr, contains, is_gt, cases_Bool, streak_cmp, key_of}
+use Rattle.std.proofs.Common.{IfSome}
 use Rattle.std.specs.Prelude.{slice_get}
 use Rattle.std.specs.BTreeMap.Range.{IsLeBy}
-use Rattle.std.specs.BTreeSet.{contains}
-use Rattle.std.specs.Ordering.{is_gt}
-use Rattle.std.proofs.lemmas.Bool.{cases_Bool}
 use Rattle.std.proofs.lemmas.Option.{IfSome_then}
-use Rattle.fb_wanted.specs.LookUp.{streak_cmp, key_of}
 use Rattle.fb_wanted.proofs.Keys.{from_key, up_to, from_up_to, between}
 use Rattle.fb_wanted.proofs.streaks.next_streak.Goals as goal
 

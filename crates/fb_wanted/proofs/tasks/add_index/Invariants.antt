@@ -1,5 +1,4 @@
-use Rattle.std.proofs.Common.{◌≡◌, ℕ, length, get_or}
-use Rattle.fb_wanted.specs.LookUp.{no_blocks}
+use Rattle.fb_wanted.proofs.Words.{◌≡◌, ℕ, length, get_or, no_blocks}
 use Rattle.fb_wanted.proofs.tasks.add_index.Given as goal
 
 -- only tasks with no block are added, up to the task's

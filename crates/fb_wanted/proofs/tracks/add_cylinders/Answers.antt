@@ -1,7 +1,4 @@
-use Rattle.std.proofs.Common.{[], length, ap, ◌∙◌, arith}
-use Rattle.std.proofs.lemmas.List.{length_push}
-use Rattle.std.proofs.lemmas.Result.{IfOk-from_err}
-use Rattle.fb_units.proofs.Changed.{one_blank_more}
+use Rattle.fb_wanted.proofs.Words.{[], length, ap, ◌∙◌, arith, length_push, IfOk-from_err, one_blank_more}
 use Rattle.fb_wanted.proofs.tracks.add_cylinders.Goals as goal
 
 pub loop-preserved : goal.loop-preserved

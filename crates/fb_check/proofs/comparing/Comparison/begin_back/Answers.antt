@@ -1,5 +1,4 @@
-use Rattle.std.proofs.Common.{◌∙◌, [], ◌∷◌}
-use Rattle.std.specs.Prelude.{codes}
+use Rattle.fb_check.proofs.Words.{◌∙◌, [], ◌∷◌, codes}
 use Rattle.fb_check.proofs.Beginnings.{line_ended}
 use Rattle.fb_check.proofs.Comparisons.{begun}
 use Rattle.fb_check.proofs.comparing.Comparison.begin_back.Goals as goal

@@ -1,7 +1,4 @@
-use Rattle.std.proofs.Common.{length, sym, subst, ◌∙◌, arith}
-use Rattle.fb_units.proofs.Lists.{all_get}
-use Rattle.fb_rows.specs.Tasks.{HasTaskBelow}
-use Rattle.fb_report.specs.Reading.{BeginsLikeEnd}
+use Rattle.fb_check.proofs.Words.{length, sym, subst, ◌∙◌, arith, all_get, HasTaskBelow, BeginsLikeEnd}
 use Rattle.fb_check.proofs.Beginnings.{back_ended, back_not_end}
 use Rattle.fb_check.proofs.Comparisons.{one_more_row, more_rows, all_rows}
 use Rattle.fb_check.proofs.comparing.Comparison.compare_back.Goals as goal

@@ -1,7 +1,4 @@
-use Rattle.std.proofs.Common.{List, ◌++◌, take}
-use Rattle.fb_rows.specs.declared.back.BackRow.{BackRow}
-use Rattle.fb_report.specs.Grammar.{LineFields}
-use Rattle.fb_check.specs.Comparing.{CanCompare, HasComparedBack}
+use Rattle.fb_check.proofs.Words.{List, ◌++◌, take, BackRow, LineFields, CanCompare, HasComparedBack}
 use Rattle.fb_check.proofs.comparing.Comparison.compare_back.Given as goal
 
 abbrev pub invariant-loop-i : goal.invariant-loop-i

@@ -1,5 +1,4 @@
-use Rattle.std.proofs.Common.{sym, subst, ◌∙◌, arith}
-use Rattle.fb_report.specs.Reading.{BeginsLikeEnd}
+use Rattle.fb_check.proofs.Words.{sym, subst, ◌∙◌, arith, BeginsLikeEnd}
 use Rattle.fb_check.proofs.Beginnings.{fore_not_end}
 use Rattle.fb_check.proofs.Comparisons.{one_more_row, more_rows, all_rows}
 use Rattle.fb_check.proofs.comparing.Comparison.compare_fore.Goals as goal

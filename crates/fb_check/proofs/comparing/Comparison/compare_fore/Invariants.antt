@@ -1,7 +1,4 @@
-use Rattle.std.proofs.Common.{List, ◌++◌, take}
-use Rattle.fb_rows.specs.declared.fore.ForeRow.{ForeRow}
-use Rattle.fb_report.specs.Grammar.{LineFields}
-use Rattle.fb_check.specs.Comparing.{CanCompare, HasComparedFore}
+use Rattle.fb_check.proofs.Words.{List, ◌++◌, take, ForeRow, LineFields, CanCompare, HasComparedFore}
 use Rattle.fb_check.proofs.comparing.Comparison.compare_fore.Given as goal
 
 abbrev pub invariant-loop-i : goal.invariant-loop-i

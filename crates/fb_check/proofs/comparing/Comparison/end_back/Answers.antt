@@ -1,5 +1,4 @@
-use Rattle.std.proofs.Common.{◌∙◌, [], ◌∷◌}
-use Rattle.std.specs.Prelude.{codes, decimal}
+use Rattle.fb_check.proofs.Words.{◌∙◌, [], ◌∷◌, codes, decimal}
 use Rattle.fb_check.proofs.Beginnings.{line_ended}
 use Rattle.fb_check.proofs.comparing.Comparison.end_back.Goals as goal
 

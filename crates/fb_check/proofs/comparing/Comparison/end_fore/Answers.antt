@@ -1,7 +1,4 @@
-use Rattle.std.proofs.Common.{◌∙◌, ◌-◌, [], ◌∷◌, subst}
-use Rattle.std.specs.Prelude.{codes, decimal}
-use Rattle.fb_check.specs.Comparing.{HasComparedOne}
-use Rattle.fb_check.specs.declared.verdict.Rule.TheVariants.{Foreground}
+use Rattle.fb_check.proofs.Words.{◌∙◌, ◌-◌, [], ◌∷◌, subst, codes, decimal, HasComparedOne, Foreground}
 use Rattle.fb_check.proofs.Beginnings.{line_ended}
 use Rattle.fb_check.proofs.comparing.Comparison.end_fore.Goals as goal
 

@@ -1,6 +1,4 @@
-use Rattle.std.proofs.Common.{◌-◌, length, take, sym, ap, ◌∙◌, subst}
-use Rattle.std.specs.List.{join_with_byte}
-use Rattle.fb_report.specs.Grammar.{ended}
+use Rattle.fb_check.proofs.Words.{◌-◌, length, take, sym, ap, ◌∙◌, subst, join_with_byte, ended}
 use Rattle.fb_check.specs.Comparing.{DiffersFrom, FindsWrong}
 use Rattle.fb_check.proofs.Beginnings.{trimmed}
 use Rattle.fb_check.proofs.comparing.Comparison.pass_line.Goals as goal

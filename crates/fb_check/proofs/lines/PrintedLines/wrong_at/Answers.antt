@@ -1,8 +1,4 @@
-use Rattle.std.proofs.Common.{◌≤◌, length, ap, ◌∙◌}
-use Rattle.std.specs.Prelude.{slice_get}
-use Rattle.fb_units.proofs.Lists.{all_get}
-use Rattle.fb_report.specs.Grammar.{report_fields}
-use Rattle.fb_check.specs.Printed.{lines_of}
+use Rattle.fb_check.proofs.Words.{◌≤◌, length, ap, ◌∙◌, slice_get, all_get, report_fields, lines_of}
 use Rattle.fb_check.proofs.lines.PrintedLines.wrong_at.Goals as goal
 
 pub wrong_field-requires : goal.wrong_field-requires

@@ -1,7 +1,5 @@
-use Rattle.std.proofs.Common.{◌≡◌, ◌<◌, ◌≤◌, refl, sym, ◌∙◌, subst, arith}
-use Rattle.std.specs.Prelude.{IfSome}
-use Rattle.std.proofs.lemmas.Option.{slice_get_read, slice_get_past}
-use Rattle.fb_script.specs.declared.call.Call.{Call}
+use Rattle.fb_decide.proofs.Words.{◌≡◌, ◌<◌, ◌≤◌, refl, sym, ◌∙◌, subst, arith, IfSome, slice_get_past, Call}
+use Rattle.std.proofs.lemmas.Option.{slice_get_read}
 use Rattle.fb_decide.proofs.Calling.{taken-may, taken-more, taken-tells, taken-called}
 use Rattle.fb_decide.proofs.background.Background.apply_calls.Goals as goal
 

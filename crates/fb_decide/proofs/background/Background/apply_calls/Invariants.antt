@@ -1,7 +1,4 @@
-use Rattle.std.proofs.Common.{◌≡◌, ◌≤◌, ◌-◌, length}
-use Rattle.fb_model.specs.History.{Past}
-use Rattle.fb_tasks.specs.Telling.{Tells}
-use Rattle.fb_decide.specs.Calls.{IsCalled}
+use Rattle.fb_decide.proofs.Words.{◌≡◌, ◌≤◌, ◌-◌, length, Past, Tells, IsCalled}
 use Rattle.fb_decide.proofs.Calling.{HasTaken}
 use Rattle.fb_decide.proofs.background.Background.apply_calls.Given as goal
 

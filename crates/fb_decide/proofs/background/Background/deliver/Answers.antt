@@ -1,13 +1,7 @@
-use Rattle.std.proofs.Common.{ap, ◌∙◌, ◌≡◌, ℕ, Some, map, slice_get}
-use Rattle.std.specs.List.{range_with_len}
-use Rattle.std.proofs.lemmas.Result.{on_ok_weaker}
-use Rattle.fb_geometry.specs.Shape.{Shape}
-use Rattle.fb_store.specs.Ranges.{content_in}
-use Rattle.fb_store.specs.Runs.{sectors_of}
-use Rattle.fb_model.specs.History.{Past, wanted}
+use Rattle.fb_decide.proofs.Words.{ap, ◌∙◌, ◌≡◌, ℕ, Some, map, range_with_len, on_ok_weaker, Shape, content_in, sectors_of, Past, wanted}
+use Rattle.fb_decide.proofs.Words.{MayDeliver, TellsUpToDate}
+use Rattle.std.proofs.Common.{slice_get}
 use Rattle.fb_tasks.proofs.Leaving.{on_ok_both}
-use Rattle.fb_tasks.specs.Telling.{MayDeliver}
-use Rattle.fb_decide.specs.Deliveries.{TellsUpToDate}
 use Rattle.fb_decide.proofs.Delivering.{wanted-on_disk, may-deliver, delivered-one, row-is, made}
 use Rattle.fb_decide.proofs.background.Background.deliver.Goals.{After-bad}
 use Rattle.fb_decide.proofs.background.Background.deliver.Goals as goal

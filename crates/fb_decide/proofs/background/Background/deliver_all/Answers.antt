@@ -1,8 +1,6 @@
-use Rattle.std.proofs.Common.{map, take, arith, subst}
-use Rattle.fb_decide.specs.Deliveries.{HasDelivered, past_with, held_now}
+use Rattle.fb_decide.proofs.Words.{map, take, arith, subst, HasDelivered, past_with, held_now, delivery_row}
 use Rattle.fb_decide.proofs.Delivering.{delivered-none}
 use Rattle.fb_decide.proofs.Placing.{delivered-more, row-at, next-catch, all-taken}
-use Rattle.fb_model.specs.Deliveries.{delivery_row}
 use Rattle.fb_decide.proofs.background.Background.deliver_all.Goals as goal
 
 pub loop-catch-init : goal.loop-catch-init

@@ -1,8 +1,4 @@
-use Rattle.std.proofs.Common.{map, take}
-use Rattle.fb_geometry.specs.Shape.{Shape}
-use Rattle.fb_model.specs.History.{Past}
-use Rattle.fb_decide.specs.Deliveries.{TellsUpToDate, HasDelivered, AreDeliverable, held_now}
-use Rattle.fb_model.specs.Deliveries.{delivery_row}
+use Rattle.fb_decide.proofs.Words.{map, take, Shape, Past, TellsUpToDate, HasDelivered, AreDeliverable, held_now, delivery_row}
 use Rattle.fb_decide.proofs.background.Background.deliver_all.Given as goal
 
 -- the first catches were delivered

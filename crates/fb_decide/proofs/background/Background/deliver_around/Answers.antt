@@ -1,7 +1,4 @@
-use Rattle.std.proofs.Common.{subst}
-use Rattle.std.proofs.lemmas.Result.{on_ok_weaker}
-use Rattle.fb_model.specs.Plans.{IsBest}
-use Rattle.fb_decide.specs.Start.{served_from}
+use Rattle.fb_decide.proofs.Words.{subst, on_ok_weaker, IsBest, served_from}
 use Rattle.fb_decide.proofs.Delivering.{fits-told, wanted-told}
 use Rattle.fb_decide.proofs.Served.{has-delivered-around}
 use Rattle.fb_decide.proofs.background.Background.deliver_around.Goals as goal

@@ -1,6 +1,4 @@
-use Rattle.std.proofs.Common.{◌∙◌, sym, subst}
-use Rattle.std.proofs.lemmas.Result.{on_ok_weaker}
-use Rattle.fb_decide.specs.Deliveries.{HasDelivered, AreDeliverable}
+use Rattle.fb_decide.proofs.Words.{◌∙◌, sym, subst, on_ok_weaker, HasDelivered, AreDeliverable}
 use Rattle.fb_decide.proofs.Placing.{wanted-distinct, due-caught, left-caught, rows-of_catches}
 use Rattle.fb_decide.proofs.Delivering.{fits-told}
 use Rattle.fb_decide.proofs.background.Background.deliver_in_dwell.Goals as goal

@@ -1,9 +1,7 @@
-use Rattle.std.proofs.Common.{◌≡◌, ◌++◌, subst, subst₂}
-use Rattle.std.proofs.lemmas.Result.{on_ok_weaker}
+use Rattle.fb_decide.proofs.Words.{◌≡◌, ◌++◌, subst, on_ok_weaker, wanted, missed, caught_in_gap, caught_rows, HasDelivered, past_with}
+use Rattle.fb_decide.proofs.Words.{held_now}
+use Rattle.std.proofs.Common.{subst₂}
 use Rattle.fb_rows.specs.declared.gap.How.TheVariants.{Gap as ByGap}
-use Rattle.fb_model.specs.History.{wanted}
-use Rattle.fb_model.specs.Deliveries.{missed, caught_in_gap, caught_rows}
-use Rattle.fb_decide.specs.Deliveries.{HasDelivered, past_with, held_now}
 use Rattle.fb_decide.proofs.Delivering.{with_rows}
 use Rattle.fb_decide.proofs.Placing.{delivered-both, left-both}
 use Rattle.fb_decide.proofs.background.Background.go_through.Goals as goal

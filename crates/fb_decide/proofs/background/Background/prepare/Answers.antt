@@ -1,8 +1,5 @@
-use Rattle.std.proofs.Common.{◌++◌, ap, ◌∙◌}
-use Rattle.std.specs.List.{fold}
-use Rattle.fb_model.specs.Steps.{take_call, calls_due}
+use Rattle.fb_decide.proofs.Words.{◌++◌, ap, ◌∙◌, fold, take_call, calls_due, test_rows_by}
 use Rattle.fb_model.specs.Segments.{with_choices}
-use Rattle.fb_decide.specs.Calls.{test_rows_by}
 use Rattle.fb_tasks.proofs.Calls.{called-chosen, called-tested}
 use Rattle.fb_decide.proofs.Calling.{may-choose}
 use Rattle.fb_decide.proofs.background.Background.prepare.Goals as goal

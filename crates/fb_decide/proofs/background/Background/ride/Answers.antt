@@ -1,16 +1,7 @@
-use Rattle.std.proofs.Common.{◌∙◌, ◌≡◌, ap, sym, subst, map}
-use Rattle.std.proofs.lemmas.Result.{on_ok_weaker}
-use Rattle.fb_model.specs.Deliveries.{carried_of, delivery_row, carried_rows}
+use Rattle.fb_decide.proofs.Words.{◌∙◌, ◌≡◌, ap, sym, subst, map, on_ok_weaker, carried_of, delivery_row, carried_rows, wanted_of, Past}
+use Rattle.fb_decide.proofs.Words.{wanted, TellsUpToDate, HasDelivered, AreDistinct, AreDeliverable, held_now, Disk, Service}
+use Rattle.fb_decide.proofs.Words.{all_passages_of, Start, IsServiceOf, served_from, AreExtents, AreLaid}
 use Rattle.fb_rows.specs.declared.gap.How.TheVariants.{Ride as ByRide}
-use Rattle.fb_wanted.specs.States.{wanted_of}
-use Rattle.fb_model.specs.History.{Past, wanted}
-use Rattle.fb_decide.specs.Deliveries.{TellsUpToDate, HasDelivered, AreDistinct, AreDeliverable, held_now}
-use Rattle.fb_service.specs.declared.disk.Disk.{Disk}
-use Rattle.fb_service.specs.declared.service.Service.{Service}
-use Rattle.fb_service.specs.Extents.{all_passages_of}
-use Rattle.fb_decide.specs.declared.start.Start.{Start}
-use Rattle.fb_decide.specs.Start.{IsServiceOf, served_from}
-use Rattle.fb_decide.specs.Carried.{AreExtents, AreLaid}
 use Rattle.fb_decide.proofs.Served.{extents-begin}
 use Rattle.fb_decide.proofs.Placing.{wanted-distinct}
 use Rattle.fb_decide.proofs.Delivering.{fits-told, wanted-told}

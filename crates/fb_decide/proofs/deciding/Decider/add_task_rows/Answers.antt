@@ -1,5 +1,4 @@
-use Rattle.std.proofs.lemmas.Result.{on_ok_weaker}
-use Rattle.fb_model.specs.Steps.{history}
+use Rattle.fb_decide.proofs.Words.{on_ok_weaker, history}
 use Rattle.fb_decide.proofs.Looping.{ended_fits, made_without}
 use Rattle.fb_decide.proofs.deciding.Decider.add_task_rows.Goals as goal
 

@@ -1,5 +1,4 @@
-use Rattle.std.proofs.Common.{ap, sym, ◌∙◌}
-use Rattle.fb_model.specs.Decisions.{run_end}
+use Rattle.fb_decide.proofs.Words.{ap, sym, ◌∙◌, run_end}
 use Rattle.fb_decide.proofs.deciding.Decider.instant.Goals as goal
 
 pub returns-clause-end : goal.returns-clause-end

@@ -1,8 +1,5 @@
-use Rattle.std.proofs.Common.{◌≤◌, arith, ap}
-use Rattle.fb_geometry.specs.Shape.{Shape, cylinders_of}
-use Rattle.fb_wanted.specs.States.{wanted_of}
-use Rattle.fb_rows.specs.declared.gap.Plan.TheVariants.{Direct}
-use Rattle.fb_model.proofs.Ties.{no_worse-trans, best-of}
+use Rattle.fb_plan.proofs.Words.{◌≤◌, arith, ap, Shape, cylinders_of, wanted_of, Direct, no_worse-trans}
+use Rattle.fb_model.proofs.Ties.{best-of}
 use Rattle.fb_plan.proofs.Passed.{tracks-more, all_plans}
 use Rattle.fb_plan.proofs.slow.SlowPlannerPlanner.best.Goals as goal
 

@@ -1,5 +1,4 @@
-use Rattle.std.proofs.Common.{subst}
-use Rattle.fb_geometry.specs.Sound.{IsSound}
+use Rattle.fb_sectormap.proofs.Words.{subst, IsSound}
 use Rattle.fb_sectormap.proofs.ByCylinder.{cylinders-rise}
 use Rattle.fb_sectormap.proofs.map.SectorMap.cylinders_rise.Goals as goal
 

@@ -1,5 +1,4 @@
-use Rattle.std.proofs.Common.{subst}
-use Rattle.fb_geometry.specs.Sound.{IsSound}
+use Rattle.fb_sectormap.proofs.Words.{subst, IsSound}
 use Rattle.fb_sectormap.proofs.ByCylinder.{count_few}
 use Rattle.fb_sectormap.proofs.map.SectorMap.few_sectors.Goals as goal
 

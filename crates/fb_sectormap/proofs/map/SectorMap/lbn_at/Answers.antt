@@ -1,8 +1,4 @@
-use Rattle.std.proofs.Common.{◌≡◌, ℕ, arith, subst, Some}
-use Rattle.std.specs.Prelude.{slice_get}
-use Rattle.fb_geometry.specs.Shape.{Shape}
-use Rattle.fb_geometry.specs.Places.{data_list_at}
-use Rattle.fb_geometry.specs.Sound.{IsSound}
+use Rattle.fb_sectormap.proofs.Words.{◌≡◌, ℕ, arith, subst, Some, slice_get, Shape, data_list_at, IsSound}
 use Rattle.fb_sectormap.proofs.ByCylinder.{not_placed, numbered}
 use Rattle.fb_sectormap.proofs.map.SectorMap.lbn_at.Goals as goal
 

@@ -1,6 +1,4 @@
-use Rattle.std.proofs.Common.{◌≡◌, ◌+◌, ◌-◌, ap, sym, ◌∙◌, arith}
-use Rattle.fb_units.specs.declared.types.Place.{Place}
-use Rattle.fb_sectormap.specs.LookUp.{track_at}
+use Rattle.fb_sectormap.proofs.Words.{◌≡◌, ◌+◌, ◌-◌, ap, sym, ◌∙◌, arith, Place, track_at}
 use Rattle.fb_sectormap.proofs.map.SectorMap.move_to.Goals as goal
 
 pub returns-else-not-has-clause-track : goal.returns-else-not-has-clause-track

@@ -1,5 +1,4 @@
-use Rattle.std.proofs.Common.{refl, arith, ◌∙◌}
-use Rattle.fb_sectormap.specs.Cylinders.{sectors_before}
+use Rattle.fb_sectormap.proofs.Words.{refl, arith, ◌∙◌, sectors_before}
 use Rattle.fb_sectormap.proofs.ByCylinder.{upto_last}
 use Rattle.fb_sectormap.proofs.Making.{one_more, next_lbn}
 use Rattle.fb_sectormap.proofs.map.SectorMap.new.Goals as goal

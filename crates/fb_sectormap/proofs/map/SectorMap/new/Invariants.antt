@@ -1,5 +1,4 @@
-use Rattle.std.proofs.Common.{◌≡◌, map, take}
-use Rattle.fb_sectormap.specs.Cylinders.{sectors_before, start_of}
+use Rattle.fb_sectormap.proofs.Words.{◌≡◌, map, take, sectors_before, start_of}
 use Rattle.fb_sectormap.proofs.Zones.{border}
 use Rattle.fb_sectormap.proofs.map.SectorMap.new.Given as goal
 

@@ -1,10 +1,7 @@
-use Rattle.std.proofs.Common.{◌≡◌, ◌-◌, ◌%◌, ◌≤◌, arith, ap, ◌∙◌, sym, ◌∷◌, ◌+◌}
-use Rattle.fb_units.specs.declared.types.Place.{Place}
+use Rattle.fb_sectormap.proofs.Words.{◌≡◌, ◌-◌, ◌%◌, ◌≤◌, arith, ap, ◌∙◌, sym, ◌∷◌, ◌+◌, Place, Track, place_at, track_at, sweep_of}
+use Rattle.fb_sectormap.proofs.Words.{cutting}
 use Rattle.fb_units.specs.declared.types.Sweep.{Sweep}
-use Rattle.fb_units.specs.declared.types.Track.{Track}
-use Rattle.fb_sectormap.specs.LookUp.{place_at, track_at}
-use Rattle.fb_sectormap.specs.Sweeps.{swept, sweep_of}
-use Rattle.fb_sectormap.specs.Cutting.{cutting}
+use Rattle.fb_sectormap.specs.Sweeps.{swept}
 use Rattle.fb_sectormap.proofs.Cutting.{first_cut-is, one_turn-from}
 use Rattle.fb_sectormap.proofs.map.SectorMap.next_cut.Goals as goal
 use Rattle.fb_sectormap.proofs.map.SectorMap.next_cut.Goals.{then-count-left, else-count-left}

@@ -1,8 +1,5 @@
-use Rattle.std.proofs.Common.{◌≡◌, subst}
-use Rattle.std.specs.Prelude.{slice_get, Some}
-use Rattle.fb_geometry.specs.Shape.{Shape}
-use Rattle.fb_geometry.specs.Places.{data_list_at}
-use Rattle.fb_geometry.specs.Sound.{IsSound}
+use Rattle.fb_sectormap.proofs.Words.{◌≡◌, subst, slice_get, Shape, data_list_at, IsSound}
+use Rattle.std.specs.Prelude.{Some}
 use Rattle.fb_sectormap.proofs.Running.{placed_on}
 use Rattle.fb_sectormap.proofs.map.SectorMap.place.Goals as goal
 

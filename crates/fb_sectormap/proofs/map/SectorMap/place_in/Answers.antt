@@ -1,9 +1,4 @@
-use Rattle.std.proofs.Common.{◌≡◌, ◌-◌, subst, arith, Some}
-use Rattle.std.specs.Prelude.{slice_get}
-use Rattle.std.proofs.lemmas.Option.{slice_get_within}
-use Rattle.fb_geometry.specs.Shape.{Shape}
-use Rattle.fb_geometry.specs.Places.{places, data_list_at}
-use Rattle.fb_geometry.specs.Sound.{IsSound}
+use Rattle.fb_sectormap.proofs.Words.{◌≡◌, ◌-◌, subst, arith, Some, slice_get, slice_get_within, Shape, places, data_list_at, IsSound}
 use Rattle.fb_sectormap.proofs.ByCylinder.{size-few}
 use Rattle.fb_sectormap.proofs.Running.{placed_on, sector_between}
 use Rattle.fb_sectormap.proofs.map.SectorMap.place_in.Goals as goal

@@ -1,9 +1,5 @@
-use Rattle.std.proofs.Common.{◌≡◌, ◌∙◌, ◌+◌, ◌-◌, ap, length, subst, sym, arith}
-use Rattle.fb_geometry.specs.Shape.{Shape}
-use Rattle.fb_geometry.specs.Places.{data_list_at}
-use Rattle.fb_geometry.specs.Sound.{IsSound}
+use Rattle.fb_sectormap.proofs.Words.{◌≡◌, ◌∙◌, ◌+◌, ◌-◌, ap, length, subst, sym, arith, Shape, data_list_at, IsSound, sectors_before}
 use Rattle.fb_geometry.specs.Even.{IsLookedUp}
-use Rattle.fb_sectormap.specs.Cylinders.{sectors_before}
 use Rattle.fb_sectormap.proofs.Running.{cylinder_of_sector, end_fits, sector_between}
 use Rattle.fb_sectormap.proofs.map.SectorMap.run_of.Goals as goal
 use Rattle.fb_sectormap.proofs.map.SectorMap.run_of.Goals.{After-cylinder_sectors}

@@ -1,7 +1,4 @@
-use Rattle.std.proofs.Common.{◌+◌, ◌≤◌, sym, subst}
-use Rattle.fb_geometry.specs.Shape.{Shape, slots_at, turn_position}
-use Rattle.fb_geometry.specs.Sound.{IsSound}
-use Rattle.fb_geometry.specs.Stretches.{IsStretch}
+use Rattle.fb_sectormap.proofs.Words.{◌+◌, ◌≤◌, sym, subst, Shape, slots_at, turn_position, IsSound, IsStretch}
 use Rattle.fb_sectormap.proofs.Running.{placed_on}
 use Rattle.fb_sectormap.proofs.Stretching.{place-on, within-disk}
 use Rattle.fb_sectormap.proofs.map.SectorMap.stretch.Goals as goal

@@ -1,6 +1,4 @@
-use Rattle.std.proofs.Common.{◌≡◌, ◌+◌, ◌-◌, ap, sym, ◌∙◌, arith}
-use Rattle.fb_sectormap.specs.LookUp.{place_at}
-use Rattle.fb_sectormap.specs.Cutting.{is_later}
+use Rattle.fb_sectormap.proofs.Words.{◌≡◌, ◌+◌, ◌-◌, ap, sym, ◌∙◌, arith, place_at, is_later}
 use Rattle.fb_sectormap.proofs.Turns.{later-inside, later-through}
 use Rattle.fb_sectormap.proofs.map.SectorMap.turn_length.Goals as goal
 

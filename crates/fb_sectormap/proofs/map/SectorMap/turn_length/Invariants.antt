@@ -1,6 +1,4 @@
-use Rattle.std.proofs.Common.{◌≡◌, ℕ, ◌+◌, ◌-◌, ◌<◌, ◌≤◌, true}
-use Rattle.fb_sectormap.specs.LookUp.{place_at}
-use Rattle.fb_sectormap.specs.Cutting.{is_later}
+use Rattle.fb_sectormap.proofs.Words.{◌≡◌, ℕ, ◌+◌, ◌-◌, ◌<◌, ◌≤◌, true, place_at, is_later}
 use Rattle.fb_sectormap.specs.Runs.{IsSpan}
 use Rattle.fb_sectormap.proofs.map.SectorMap.turn_length.Given as goal
 

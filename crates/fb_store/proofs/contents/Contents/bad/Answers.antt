@@ -1,11 +1,7 @@
-use Rattle.std.proofs.Common.{◌≡◌, ◌≤◌, ◌+◌, ℕ, List, ap, ◌∙◌, arith, take, Some, slice_get}
-use Rattle.std.specs.List.{sum_by}
-use Rattle.std.proofs.lemmas.Option.{get_or_from_slice_get, slice_get_within}
+use Rattle.fb_store.proofs.Words.{◌≡◌, ◌≤◌, ◌+◌, ℕ, List, ap, ◌∙◌, arith, take, Some, slice_get, sum_by, get_or_from_slice_get, ContentRun}
+use Rattle.fb_store.proofs.Words.{Content, Filled, Unreadable, bad_in}
+use Rattle.std.proofs.lemmas.Option.{slice_get_within}
 use Rattle.std.proofs.lemmas.List.Sums.{sum_by_more, sum_by_more_le, sum_by-le-sum_by, sum_by-take-le}
-use Rattle.fb_store.specs.declared.content.ContentRun.{ContentRun}
-use Rattle.fb_store.specs.declared.content.Content.{Content}
-use Rattle.fb_store.specs.declared.content.Content.TheVariants.{Filled, Unreadable}
-use Rattle.fb_store.specs.Runs.{bad_in}
 use Rattle.fb_store.proofs.contents.Contents.bad.Goals as goal
 
 bad_within : (first count : ℕ) (content : Content) → bad_in (record { first = first; count = count; content = content }) ≤ count

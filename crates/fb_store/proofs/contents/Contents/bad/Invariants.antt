@@ -1,6 +1,4 @@
-use Rattle.std.proofs.Common.{◌≡◌, take}
-use Rattle.std.specs.List.{sum_by}
-use Rattle.fb_store.specs.Runs.{bad_in}
+use Rattle.fb_store.proofs.Words.{◌≡◌, take, sum_by, bad_in}
 use Rattle.fb_store.proofs.contents.Contents.bad.Given as goal
 
 abbrev pub invariant-loop-i : goal.invariant-loop-i

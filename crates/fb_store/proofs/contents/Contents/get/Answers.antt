@@ -1,13 +1,8 @@
-use Rattle.std.proofs.Common.{◌<◌, Some, slice_get, arith, refl, sym, ap, subst, ◌∙◌, get_or, length, Global}
-use Rattle.std.specs.declared.vec.Vec.{Vec}
-use Rattle.std.specs.List.{AllByRecursion}
+use Rattle.fb_store.proofs.Words.{◌<◌, Some, slice_get, arith, refl, sym, ap, subst, ◌∙◌, get_or, length, Global, Vec, AllByRecursion}
+use Rattle.fb_store.proofs.Words.{ContentRun, ShortRun, kept_runs, run_of, IsInRange}
 use Rattle.std.proofs.lemmas.Option.{slice_get_read}
 use Rattle.std.proofs.lemmas.List.{length-map}
 use Rattle.fb_units.proofs.Lists.{all_get, map_at}
-use Rattle.fb_store.specs.declared.content.ContentRun.{ContentRun}
-use Rattle.fb_store.specs.declared.contents.ShortRun.{ShortRun}
-use Rattle.fb_store.specs.Kept.{kept_runs, run_of}
-use Rattle.fb_store.specs.Runs.{IsInRange}
 use Rattle.fb_store.proofs.contents.Contents.get.Goals as goal
 
 pub returns-in-Short-clause-value : goal.returns-in-Short-clause-value

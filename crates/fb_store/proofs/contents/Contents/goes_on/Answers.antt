@@ -1,6 +1,4 @@
-use Rattle.std.proofs.Common.{sym, ap, ◌∙◌, ◌-◌, arith}
-use Rattle.std.proofs.lemmas.Option.{get_or_from_slice_get}
-use Rattle.fb_store.specs.Runs.{joins}
+use Rattle.fb_store.proofs.Words.{sym, ap, ◌∙◌, ◌-◌, arith, get_or_from_slice_get, joins}
 use Rattle.fb_store.proofs.Joined.{last_joins-at}
 use Rattle.fb_store.proofs.contents.Contents.goes_on.Goals as goal
 

@@ -1,6 +1,4 @@
-use Rattle.std.proofs.Common.{sym, ap, ◌∙◌, ◌-◌, ◌+◌, ◌≤◌, ◌^◌, arith, set}
-use Rattle.std.proofs.lemmas.Option.{get_or_from_slice_get}
-use Rattle.std.proofs.lemmas.Result.{on_ok_weaker}
+use Rattle.fb_store.proofs.Words.{sym, ap, ◌∙◌, ◌-◌, ◌+◌, ◌≤◌, ◌^◌, arith, set, get_or_from_slice_get, on_ok_weaker}
 use Rattle.fb_store.proofs.Joined.{joined_last, pushed_last, joined-first, longer, some_run}
 use Rattle.fb_store.proofs.contents.Contents.join.Goals.{After-get-longer}
 use Rattle.fb_store.proofs.contents.Contents.join.Goals as goal

@@ -1,9 +1,4 @@
-use Rattle.std.proofs.Common.{sym, ap, subst, ◌∙◌, map, Global}
-use Rattle.std.specs.declared.vec.Vec.{Vec}
-use Rattle.std.specs.List.{AllByRecursion}
-use Rattle.fb_store.specs.declared.contents.ShortRun.{ShortRun}
-use Rattle.fb_store.specs.Kept.{kept_runs, run_of}
-use Rattle.fb_store.specs.Runs.{IsInRange}
+use Rattle.fb_store.proofs.Words.{sym, ap, subst, ◌∙◌, map, Global, Vec, AllByRecursion, ShortRun, kept_runs, run_of, IsInRange}
 use Rattle.fb_units.proofs.Lists.{all_set}
 use Rattle.fb_store.proofs.Kept.{short_set}
 use Rattle.fb_store.proofs.contents.Contents.set.Goals as goal

@@ -1,8 +1,4 @@
-use Rattle.std.proofs.Common.{ap, ◌∙◌, ◌++◌, ◌-◌, sym}
-use Rattle.std.specs.List.{range_with_len}
-use Rattle.fb_store.specs.Ranges.{held_at}
-use Rattle.fb_store.specs.Sparse.{held_in}
-use Rattle.fb_store.specs.Runs.{runs_of, sectors_of}
+use Rattle.fb_store.proofs.Words.{ap, ◌∙◌, ◌++◌, ◌-◌, sym, range_with_len, held_at, held_in, runs_of, sectors_of}
 use Rattle.fb_store.proofs.Taken.{held_range, held_gap, none_added}
 use Rattle.fb_store.proofs.sparse.SparseContents.add_range.Goals as goal
 

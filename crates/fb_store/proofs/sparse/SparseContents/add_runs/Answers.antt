@@ -1,8 +1,4 @@
-use Rattle.std.proofs.Common.{◌≡◌, ◌-◌, ◌++◌, arith, refl, ap, ap₂, ◌∙◌}
-use Rattle.std.specs.List.{range_with_len}
-use Rattle.fb_store.specs.Ranges.{held_at}
-use Rattle.fb_store.specs.Sparse.{held_in}
-use Rattle.fb_store.specs.Runs.{runs_of, sectors_of}
+use Rattle.fb_store.proofs.Words.{◌≡◌, ◌-◌, ◌++◌, arith, refl, ap, ap₂, ◌∙◌, range_with_len, held_at, held_in, runs_of, sectors_of}
 use Rattle.fb_store.proofs.Joined.{fewest_again}
 use Rattle.fb_store.proofs.Taken.{added_more, none_added}
 use Rattle.fb_store.proofs.sparse.SparseContents.add_runs.Goals as goal

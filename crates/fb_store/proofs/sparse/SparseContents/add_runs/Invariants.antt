@@ -1,8 +1,4 @@
-use Rattle.std.proofs.Common.{◌≡◌, ◌≤◌, ◌+◌, ◌-◌, ◌++◌}
-use Rattle.std.specs.List.{range_with_len}
-use Rattle.fb_store.specs.Ranges.{held_at}
-use Rattle.fb_store.specs.Sparse.{held_in}
-use Rattle.fb_store.specs.Runs.{runs_of, sectors_of}
+use Rattle.fb_store.proofs.Words.{◌≡◌, ◌≤◌, ◌+◌, ◌-◌, ◌++◌, range_with_len, held_at, held_in, runs_of, sectors_of}
 use Rattle.fb_store.proofs.sparse.SparseContents.add_runs.Given as goal
 
 abbrev pub invariant-loop-lbn : goal.invariant-loop-lbn

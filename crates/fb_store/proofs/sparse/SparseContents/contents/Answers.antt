@@ -1,5 +1,4 @@
-use Rattle.std.proofs.Common.{[]}
-use Rattle.fb_store.specs.Ranges.{held_at}
+use Rattle.fb_store.proofs.Words.{[], held_at}
 use Rattle.fb_store.proofs.Taken.{contents_to}
 use Rattle.fb_store.proofs.sparse.SparseContents.contents.Goals as goal
 

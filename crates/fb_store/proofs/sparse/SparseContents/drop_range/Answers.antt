@@ -1,9 +1,4 @@
-use Rattle.std.proofs.Common.{ap, ◌∙◌}
-use Rattle.std.specs.Ordering.{nat_cmp}
-use Rattle.std.specs.BTreeMap.{get}
-use Rattle.fb_units.proofs.Lists.{on_err}
-use Rattle.fb_store.specs.Sparse.{after_dropping}
-use Rattle.fb_store.specs.Ranges.{held_of, held_at}
+use Rattle.fb_store.proofs.Words.{ap, ◌∙◌, nat_cmp, get, on_err, after_dropping, held_of, held_at}
 use Rattle.fb_store.proofs.Taken.{dropped, dropped_past}
 use Rattle.fb_store.proofs.sparse.SparseContents.drop_range.Goals as goal
 

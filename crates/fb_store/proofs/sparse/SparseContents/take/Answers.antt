@@ -1,8 +1,5 @@
-use Rattle.std.proofs.Common.{ap, ◌∙◌}
-use Rattle.std.proofs.lemmas.Result.{on_ok_weaker, on_err_weaker}
-use Rattle.fb_store.specs.Sparse.{after_taking}
-use Rattle.fb_store.specs.Ranges.{held_at}
-use Rattle.fb_store.specs.Runs.{sectors_of}
+use Rattle.fb_store.proofs.Words.{ap, ◌∙◌, on_ok_weaker, after_taking, held_at, sectors_of}
+use Rattle.std.proofs.lemmas.Result.{on_err_weaker}
 use Rattle.fb_store.proofs.Taken.{taken_block}
 use Rattle.fb_store.proofs.sparse.SparseContents.take.Goals as goal
 

@@ -1,6 +1,4 @@
-use Rattle.std.proofs.Common.{subst, sym, ◌∙◌, ◌-◌}
-use Rattle.fb_store.specs.Ranges.{content_in}
-use Rattle.fb_store.specs.Runs.{IsRun}
+use Rattle.fb_store.proofs.Words.{subst, sym, ◌∙◌, ◌-◌, content_in, IsRun}
 use Rattle.fb_store.proofs.Originals.{IsRun-written, IsRun-unwritten}
 use Rattle.fb_store.proofs.store.Store.run_in_range.Goals as goal
 

@@ -1,14 +1,11 @@
-use Rattle.std.proofs.Common.{◌≡◌, ◌+◌, ◌-◌, ap, ◌∙◌, arith}
-use Rattle.std.specs.List.{sum_by}
-use Rattle.fb_store.specs.declared.content.ContentRun.{ContentRun}
-use Rattle.fb_store.specs.Ranges.{content_in}
+use Rattle.fb_store.proofs.Words.{◌≡◌, ◌+◌, ◌-◌, ap, ◌∙◌, arith, sum_by, ContentRun, content_in}
 use Rattle.fb_store.proofs.Longest.{held, sum_by-runs_of-held}
-use Rattle.fb_store.proofs.Joined.{fewest-again, one_more}
+use Rattle.fb_store.proofs.Joined.{fewest_again, one_more}
 use Rattle.fb_store.proofs.store.Store.runs.Goals as goal
 
 pub join-requires-clause-fewest : goal.join-requires-clause-fewest
 join-requires-clause-fewest c =
-    (fewest-again (held (content_in c.args.self.now) c.args.first (c.loop-lbn.lbn - c.args.first)) c.loop-lbn.runs c.loop-lbn.invariant.so_far).1
+    (fewest_again (held (content_in c.args.self.now) c.args.first (c.loop-lbn.lbn - c.args.first)) c.loop-lbn.runs c.loop-lbn.invariant.so_far).1
 
 pub loop-lbn-preserved : goal.loop-lbn-preserved
 loop-lbn-preserved c =

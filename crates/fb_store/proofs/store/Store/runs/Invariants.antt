@@ -1,6 +1,4 @@
-use Rattle.std.proofs.Common.{◌≡◌, ◌≤◌, ◌+◌, ◌-◌}
-use Rattle.fb_store.specs.Ranges.{content_in}
-use Rattle.fb_store.specs.Runs.{runs_of}
+use Rattle.fb_store.proofs.Words.{◌≡◌, ◌≤◌, ◌+◌, ◌-◌, content_in, runs_of}
 use Rattle.fb_store.proofs.Longest.{held}
 use Rattle.fb_store.proofs.store.Store.runs.Given as goal
 

@@ -1,10 +1,4 @@
-use Rattle.std.proofs.Common.{ap, ◌∙◌}
-use Rattle.std.specs.Option.{unwrap_or}
-use Rattle.std.specs.Ordering.{nat_cmp}
-use Rattle.std.specs.BTreeMap.{get}
-use Rattle.fb_units.proofs.Lists.{on_err}
-use Rattle.fb_store.specs.Writes.{unwritten, after_write}
-use Rattle.fb_store.specs.Ranges.{held_of, content_in}
+use Rattle.fb_store.proofs.Words.{ap, ◌∙◌, unwrap_or, nat_cmp, get, on_err, unwritten, after_write, held_of, content_in}
 use Rattle.fb_store.proofs.Originals.{content_written}
 use Rattle.fb_store.proofs.store.Store.write_range.Goals as goal
 

@@ -1,5 +1,4 @@
-use Rattle.std.proofs.Common.{ap, arith, get_or}
-use Rattle.fb_wanted.specs.Depth.{no_depth}
+use Rattle.fb_wanted.proofs.Words.{ap, arith, get_or, no_depth}
 use Rattle.fb_wanted.proofs.depths.Depths.most_among.Goals as goal
 
 pub returns-clause-least : goal.returns-clause-least

@@ -1,8 +1,5 @@
-use Rattle.std.proofs.Common.{◌<◌, ap, sym, subst, inl, inr, arith, get_or, set, length}
-use Rattle.std.proofs.lemmas.Bool.{cases_eq}
-use Rattle.std.proofs.lemmas.Grind.{get_or-set_at, get_or_default_zero}
-use Rattle.std.proofs.lemmas.List.{get_or-set_other}
-use Rattle.fb_wanted.specs.LookUp.{ArePeaks}
+use Rattle.fb_wanted.proofs.Words.{◌<◌, ap, sym, subst, inl, inr, arith, get_or, set, length, cases_eq, get_or-set_at, get_or_default_zero}
+use Rattle.fb_wanted.proofs.Words.{get_or-set_other, ArePeaks}
 use Rattle.fb_wanted.proofs.Cylinders.{peaks_set}
 use Rattle.fb_wanted.proofs.greatest.Greatest.set.Goals as goal
 

@@ -1,5 +1,4 @@
-use Rattle.std.proofs.Common.{◌+◌, ◌*◌, ap, inl, inr, arith, length, get_or}
-use Rattle.std.proofs.lemmas.Bool.{cases_lt}
+use Rattle.fb_wanted.proofs.Words.{◌+◌, ◌*◌, ap, inl, inr, arith, length, get_or, cases_lt}
 use Rattle.fb_wanted.proofs.peaks.Peaks.next.Goals as goal
 
 pub returns-clause-there : goal.returns-clause-there

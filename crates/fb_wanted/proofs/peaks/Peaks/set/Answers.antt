@@ -1,5 +1,4 @@
-use Rattle.std.proofs.Common.{◌<◌, ap, sym, subst, arith, get_or, length, ◌/◌}
-use Rattle.std.proofs.lemmas.Grind.{get_or_default_zero}
+use Rattle.fb_wanted.proofs.Words.{◌<◌, ap, sym, subst, arith, get_or, length, ◌/◌, get_or_default_zero}
 use Rattle.fb_wanted.proofs.Cylinders.{peaks_set}
 use Rattle.fb_wanted.proofs.peaks.Peaks.set.Goals as goal
 

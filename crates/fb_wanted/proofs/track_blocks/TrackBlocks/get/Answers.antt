@@ -1,5 +1,4 @@
-use Rattle.std.proofs.Common.{◌<◌, ◌∙◌, ap, sym, subst, length, slice_get, get_or}
-use Rattle.fb_wanted.specs.LookUp.{is_of_track}
+use Rattle.fb_wanted.proofs.Words.{◌<◌, ◌∙◌, ap, sym, subst, length, slice_get, get_or, is_of_track}
 use Rattle.fb_wanted.proofs.Standing.{index_within, index_there, index_read, read_at}
 use Rattle.fb_wanted.proofs.track_blocks.TrackBlocks.get.Goals as goal
 

@@ -1,6 +1,4 @@
-use Rattle.std.proofs.Common.{◌∙◌, ap, length, arith}
-use Rattle.fb_units.proofs.Counts.{filter-le}
-use Rattle.fb_wanted.specs.LookUp.{is_of_track}
+use Rattle.fb_wanted.proofs.Words.{◌∙◌, ap, length, arith, filter-le, is_of_track}
 use Rattle.fb_wanted.proofs.Standing.{length-indexes_of}
 use Rattle.fb_wanted.proofs.track_blocks.TrackBlocks.len.Goals as goal
 

@@ -1,5 +1,4 @@
-use Rattle.std.proofs.Common.{subst}
-use Rattle.fb_wanted.specs.Offers.{AreOffers}
+use Rattle.fb_wanted.proofs.Words.{subst, AreOffers}
 use Rattle.fb_wanted.proofs.Found.{are_offers}
 use Rattle.fb_wanted.proofs.Offering.{offers-few}
 use Rattle.fb_wanted.proofs.track_blocks.TrackBlocks.offers.Goals as goal

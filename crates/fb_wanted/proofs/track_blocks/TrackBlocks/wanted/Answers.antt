@@ -1,6 +1,4 @@
-use Rattle.std.proofs.Common.{sym, subst}
-use Rattle.fb_wanted.specs.Offers.{AreSameBlocks, offered_blocks}
-use Rattle.fb_wanted.specs.States.{wanted_of}
+use Rattle.fb_wanted.proofs.Words.{sym, subst, AreSameBlocks, offered_blocks, wanted_of}
 use Rattle.fb_wanted.proofs.Offering.{offers-few}
 use Rattle.fb_wanted.proofs.track_blocks.TrackBlocks.wanted.Goals as goal
 

@@ -1,5 +1,4 @@
-use Rattle.std.proofs.Common.{◌∙◌, ap, arith, get_or, refl, []}
-use Rattle.fb_wanted.specs.LookUp.{no_block_on}
+use Rattle.fb_wanted.proofs.Words.{◌∙◌, ap, arith, get_or, refl, [], no_block_on}
 use Rattle.fb_wanted.proofs.tracks.Tracks.greatest_on.Goals as goal
 
 pub returns-in-Some-clause-least : goal.returns-in-Some-clause-least

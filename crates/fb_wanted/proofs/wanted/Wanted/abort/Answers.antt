@@ -1,5 +1,4 @@
-use Rattle.std.proofs.Common.{ap, arith}
-use Rattle.fb_wanted.specs.Counting.{counts_of}
+use Rattle.fb_wanted.proofs.Words.{ap, arith, counts_of}
 use Rattle.fb_wanted.proofs.Counted.{aborted-after}
 use Rattle.fb_wanted.proofs.wanted.Wanted.abort.Goals as goal
 

@@ -1,13 +1,6 @@
-use Rattle.std.proofs.Common.{◌≡◌, List, ◌<◌, ◌-◌, ◌/◌, arith, ◌∙◌, ◌++◌, ◌∷◌, [], ap, sym, refl, subst, length, filter}
-use Rattle.std.proofs.Common.{slice_get}
-use Rattle.std.proofs.lemmas.List.{length-map}
-use Rattle.fb_wanted.specs.declared.block.Block.{Block}
-use Rattle.fb_wanted.specs.declared.block.Entry.{Entry}
-use Rattle.fb_wanted.specs.Numbering.{blocks_of, registered_count}
-use Rattle.fb_wanted.specs.Depth.{AreDeep}
-use Rattle.fb_wanted.specs.Groups.{AreGrouped}
-use Rattle.fb_wanted.specs.LookUp.{is_of_task, lbns, grown, offers_at, AreGreatest, AreNoted, AreShort, AreOffered, IsKept}
-use Rattle.fb_wanted.specs.declared.block.State.TheVariants.{Suspended}
+use Rattle.fb_wanted.proofs.Words.{◌≡◌, List, ◌<◌, ◌-◌, ◌/◌, arith, ◌∙◌, ◌++◌, ◌∷◌, [], ap, sym, refl, subst, length, filter, slice_get}
+use Rattle.fb_wanted.proofs.Words.{length-map, Block, Entry, blocks_of, registered_count, AreDeep, AreGrouped, is_of_task, lbns, grown}
+use Rattle.fb_wanted.proofs.Words.{offers_at, AreGreatest, AreNoted, AreShort, AreOffered, IsKept, Suspended}
 use Rattle.fb_wanted.proofs.Offering.{offered_still, offered_pushed}
 use Rattle.fb_wanted.proofs.Numbers.{task-blocks}
 use Rattle.fb_wanted.proofs.Reading.{counts_room}

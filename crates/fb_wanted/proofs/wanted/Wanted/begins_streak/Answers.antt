@@ -1,7 +1,4 @@
-use Rattle.std.proofs.Common.{◌≡◌, ◌-◌, ◌∙◌, ap, sym, arith, slice_get}
-use Rattle.std.proofs.lemmas.Bool.Decides.{nat_tests}
-use Rattle.std.proofs.lemmas.Option.{same_Some}
-use Rattle.fb_wanted.specs.LookUp.{lbns, region_of}
+use Rattle.fb_wanted.proofs.Words.{◌≡◌, ◌-◌, ◌∙◌, ap, sym, arith, slice_get, nat_tests, same_Some, lbns, region_of}
 use Rattle.fb_wanted.proofs.Regions.{lbn_at}
 use Rattle.fb_wanted.proofs.wanted.Wanted.begins_streak.Goals as goal
 

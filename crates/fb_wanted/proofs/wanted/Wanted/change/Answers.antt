@@ -1,6 +1,4 @@
-use Rattle.std.proofs.Common.{arith, sym, subst}
-use Rattle.fb_wanted.specs.Counting.{is_of}
-use Rattle.fb_wanted.specs.Numbering.{AreInOrder, blocks_of}
+use Rattle.fb_wanted.proofs.Words.{arith, sym, subst, is_of, AreInOrder, blocks_of}
 use Rattle.fb_wanted.proofs.Changing.{all_left, none_yet, further, as_many, all_changed}
 use Rattle.fb_wanted.proofs.wanted.Wanted.change.Goals as goal
 

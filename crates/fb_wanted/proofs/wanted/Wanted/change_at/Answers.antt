@@ -1,8 +1,5 @@
-use Rattle.std.proofs.Common.{◌+◌, ◌/◌, ◌∙◌, arith, ap, sym, subst, length}
-use Rattle.fb_units.proofs.Counts.{filter-le}
-use Rattle.fb_wanted.specs.Counting.{counted, is_in_group}
-use Rattle.fb_wanted.specs.LookUp.{is_of_task, AreChanged}
-use Rattle.fb_wanted.specs.Numbering.{AreInOrder, blocks_of}
+use Rattle.fb_wanted.proofs.Words.{◌+◌, ◌/◌, ◌∙◌, arith, ap, sym, subst, length, filter-le, counted, is_in_group, is_of_task, AreChanged}
+use Rattle.fb_wanted.proofs.Words.{AreInOrder, blocks_of}
 use Rattle.fb_wanted.proofs.Changing.{one_further, passed_over}
 use Rattle.fb_wanted.proofs.wanted.Wanted.change_at.Goals as goal
 

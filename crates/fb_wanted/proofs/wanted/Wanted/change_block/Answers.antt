@@ -1,7 +1,4 @@
-use Rattle.std.proofs.Common.{◌≡◌, ◌∙◌, sym, subst}
-use Rattle.std.proofs.lemmas.Option.{same_Some}
-use Rattle.fb_wanted.specs.LookUp.{is_of_task}
-use Rattle.fb_wanted.specs.States.{entry_after}
+use Rattle.fb_wanted.proofs.Words.{◌≡◌, ◌∙◌, sym, subst, same_Some, is_of_task, entry_after}
 use Rattle.fb_wanted.proofs.OfTask.{own_after}
 use Rattle.fb_wanted.proofs.Standing.{at_index, passes, index_within, nth_changed, nth_stays}
 use Rattle.fb_wanted.proofs.wanted.Wanted.change_block.Goals as goal

@@ -1,11 +1,6 @@
-use Rattle.std.proofs.Common.{◌≡◌, ◌≤◌, ◌-◌, ◌∙◌, true, false, ap, sym, inl, inr, arith, slice_get, subst}
-use Rattle.std.specs.BTreeSet.{contains}
-use Rattle.std.proofs.lemmas.Bool.{cases_lt, true≢false}
-use Rattle.fb_wanted.specs.declared.streaks.Streak.{Streak}
-use Rattle.fb_wanted.specs.Counting.{is_of}
-use Rattle.fb_wanted.specs.Numbering.{AreInOrder, blocks_of}
-use Rattle.fb_wanted.specs.LookUp.{lbns, region_of, streak_cmp, key_of, BeginsStreak, AreShort, changed_where}
-use Rattle.fb_wanted.specs.States.{after}
+use Rattle.fb_wanted.proofs.Words.{◌≡◌, ◌≤◌, ◌-◌, ◌∙◌, true, false, ap, sym, inl, inr, arith, slice_get, subst, contains, cases_lt}
+use Rattle.fb_wanted.proofs.Words.{true≢false, Streak, is_of, AreInOrder, blocks_of, lbns, region_of, streak_cmp, key_of, BeginsStreak}
+use Rattle.fb_wanted.proofs.Words.{AreShort, changed_where, after}
 use Rattle.fb_wanted.proofs.Changing.{all_left}
 use Rattle.fb_wanted.proofs.Choosing.{none_chosen, lbns_stay}
 use Rattle.fb_wanted.proofs.Finding.{AreBehind, up_or_not, streak_between, behind_first, before_end, comes_later, finished}

@@ -1,6 +1,5 @@
-use Rattle.std.proofs.Common.{◌≡◌, ◌≤◌, ◌<◌, ◌+◌, ◌-◌, ◌*◌, ◌^◌, ℕ, Bool, true, length}
-use Rattle.fb_wanted.specs.declared.streaks.Streak.{Streak}
-use Rattle.fb_wanted.specs.LookUp.{lbns, IsUpTo, IsInStreak, BeginsStreak, changed_where}
+use Rattle.fb_wanted.proofs.Words.{◌≡◌, ◌≤◌, ◌<◌, ◌+◌, ◌-◌, ◌*◌, ◌^◌, ℕ, Bool, true, length, Streak, lbns, IsUpTo, IsInStreak}
+use Rattle.fb_wanted.proofs.Words.{BeginsStreak, changed_where}
 use Rattle.fb_wanted.proofs.wanted.Wanted.change_range.Given as goal
 
 -- the blocks of all streaks before this one are changed, from the first region on whose blocks can reach the range

@@ -1,6 +1,4 @@
-use Rattle.std.proofs.Common.{◌∙◌, arith, ap, sym, slice_get}
-use Rattle.std.proofs.lemmas.Option.{same_Some, slice_get_within}
-use Rattle.fb_wanted.specs.LookUp.{lbns, region_of}
+use Rattle.fb_wanted.proofs.Words.{◌∙◌, arith, ap, sym, slice_get, same_Some, slice_get_within, lbns, region_of}
 use Rattle.fb_wanted.proofs.Changing.{none_yet, further, as_many, lbns_same}
 use Rattle.fb_wanted.proofs.Regions.{lbn_at, length-lbns}
 use Rattle.fb_wanted.proofs.wanted.Wanted.change_streak.Goals as goal

@@ -1,5 +1,4 @@
-use Rattle.std.proofs.Common.{◌≤◌, ◌-◌}
-use Rattle.fb_wanted.specs.LookUp.{AreChanged}
+use Rattle.fb_wanted.proofs.Words.{◌≤◌, ◌-◌, AreChanged}
 use Rattle.fb_wanted.proofs.wanted.Wanted.change_streak.Given as goal
 
 -- the blocks from the streak's first one up to here are changed

@@ -1,7 +1,4 @@
-use Rattle.std.proofs.Common.{◌≤◌, ◌∙◌, ap, sym, get_or, length, arith}
-use Rattle.std.proofs.lemmas.List.{get_or_past}
-use Rattle.fb_wanted.specs.Counting.{counts_of}
-use Rattle.fb_wanted.specs.LookUp.{no_blocks}
+use Rattle.fb_wanted.proofs.Words.{◌≤◌, ◌∙◌, ap, sym, get_or, length, arith, get_or_past, counts_of, no_blocks}
 use Rattle.fb_wanted.proofs.Reading.{task_counts}
 use Rattle.fb_wanted.proofs.wanted.Wanted.counts.Goals as goal
 

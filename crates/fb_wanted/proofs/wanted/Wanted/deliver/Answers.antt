@@ -1,7 +1,4 @@
-use Rattle.std.proofs.Common.{◌∙◌, subst, filter}
-use Rattle.std.proofs.lemmas.Option.{slice_get_within}
-use Rattle.fb_wanted.specs.LookUp.{is_of_task}
-use Rattle.fb_wanted.specs.Numbering.{AreInOrder, blocks_of}
+use Rattle.fb_wanted.proofs.Words.{◌∙◌, subst, filter, slice_get_within, is_of_task, AreInOrder, blocks_of}
 use Rattle.fb_wanted.proofs.Numbers.{found}
 use Rattle.fb_wanted.proofs.OfTask.{delivered_alone}
 use Rattle.fb_wanted.proofs.wanted.Wanted.deliver.Goals as goal

@@ -1,5 +1,4 @@
-use Rattle.std.proofs.Common.{◌≤◌, ap, subst, arith}
-use Rattle.fb_wanted.specs.Depth.{depth_at, band_depth}
+use Rattle.fb_wanted.proofs.Words.{◌≤◌, ap, subst, arith, depth_at, band_depth}
 use Rattle.fb_wanted.proofs.Deep.{depth-le_band}
 use Rattle.fb_wanted.proofs.wanted.Wanted.depth_in.Goals as goal
 

@@ -1,7 +1,4 @@
-use Rattle.std.proofs.Common.{◌∙◌, sym, subst, filter}
-use Rattle.std.proofs.lemmas.Option.{same_Some, slice_get_within}
-use Rattle.fb_wanted.specs.LookUp.{is_of_task}
-use Rattle.fb_wanted.specs.Numbering.{AreInOrder, blocks_of}
+use Rattle.fb_wanted.proofs.Words.{◌∙◌, sym, subst, filter, same_Some, slice_get_within, is_of_task, AreInOrder, blocks_of}
 use Rattle.fb_wanted.proofs.Numbers.{found}
 use Rattle.fb_wanted.proofs.wanted.Wanted.entry.Goals as goal
 

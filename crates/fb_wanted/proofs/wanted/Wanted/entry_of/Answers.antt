@@ -1,5 +1,4 @@
-use Rattle.std.proofs.Common.{◌∙◌}
-use Rattle.fb_wanted.specs.LookUp.{is_of_task}
+use Rattle.fb_wanted.proofs.Words.{◌∙◌, is_of_task}
 use Rattle.fb_wanted.proofs.Standing.{at_index, index_within}
 use Rattle.fb_wanted.proofs.wanted.Wanted.entry_of.Goals as goal
 

@@ -1,5 +1,4 @@
-use Rattle.std.proofs.Common.{◌≤◌, ◌/◌, arith, subst}
-use Rattle.fb_wanted.specs.Depth.{depth_at}
+use Rattle.fb_wanted.proofs.Words.{◌≤◌, ◌/◌, arith, subst, depth_at}
 use Rattle.fb_wanted.proofs.Deep.{depth-le_band}
 use Rattle.fb_wanted.proofs.wanted.Wanted.greatest_depth_in.Goals as goal
 

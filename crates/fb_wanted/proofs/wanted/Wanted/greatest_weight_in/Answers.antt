@@ -1,5 +1,4 @@
-use Rattle.std.proofs.Common.{◌≤◌, arith, subst}
-use Rattle.fb_wanted.specs.Tracks.{wanted_weight}
+use Rattle.fb_wanted.proofs.Words.{◌≤◌, arith, subst, wanted_weight}
 use Rattle.fb_wanted.proofs.Reading.{weight_read}
 use Rattle.fb_wanted.proofs.wanted.Wanted.greatest_weight_in.Goals as goal
 

@@ -1,6 +1,5 @@
-use Rattle.std.proofs.Common.{◌<◌, ◌∙◌, ap, sym, subst, length, filter, slice_get, arith}
-use Rattle.std.proofs.lemmas.List.{get_or_default}
-use Rattle.fb_wanted.specs.LookUp.{is_of_task, indexes_of, no_blocks}
+use Rattle.fb_wanted.proofs.Words.{◌<◌, ◌∙◌, ap, sym, subst, length, filter, slice_get, arith, get_or_default, is_of_task, indexes_of}
+use Rattle.fb_wanted.proofs.Words.{no_blocks}
 use Rattle.fb_wanted.proofs.Reading.{task_there, task_index}
 use Rattle.fb_wanted.proofs.wanted.Wanted.index_of.Goals as goal
 

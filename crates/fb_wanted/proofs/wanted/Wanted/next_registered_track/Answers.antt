@@ -1,5 +1,4 @@
-use Rattle.std.proofs.Common.{◌<◌, ap, ◌∙◌, sym, subst, length, get_or, arith}
-use Rattle.fb_wanted.specs.Tracks.{IsNextRegistered, NoneIsRegistered}
+use Rattle.fb_wanted.proofs.Words.{◌<◌, ap, ◌∙◌, sym, subst, length, get_or, arith, IsNextRegistered, NoneIsRegistered}
 use Rattle.fb_wanted.proofs.Reading.{are_marked, first_of_track, first_within, next_registered, none_registered}
 use Rattle.fb_wanted.proofs.wanted.Wanted.next_registered_track.Goals as goal
 

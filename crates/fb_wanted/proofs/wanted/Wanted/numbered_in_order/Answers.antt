@@ -1,5 +1,4 @@
-use Rattle.std.proofs.Common.{subst}
-use Rattle.fb_wanted.specs.Numbering.{AreInOrder, blocks_of}
+use Rattle.fb_wanted.proofs.Words.{subst, AreInOrder, blocks_of}
 use Rattle.fb_wanted.proofs.wanted.Wanted.numbered_in_order.Goals as goal
 
 pub returns : goal.returns

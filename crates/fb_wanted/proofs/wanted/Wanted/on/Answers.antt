@@ -1,12 +1,6 @@
-use Rattle.std.proofs.Common.{◌≡◌, ◌∙◌, List, [], length, ap, sym, subst, arith}
-use Rattle.std.proofs.lemmas.Option.{none-some}
-use Rattle.fb_units.specs.declared.types.Track.{Track}
-use Rattle.fb_wanted.specs.declared.block.Entry.{Entry}
-use Rattle.fb_wanted.specs.declared.offer.Offer.{Offer}
-use Rattle.fb_wanted.specs.LookUp.{no_block_on, indexes_of, is_of_track, offers_at}
-use Rattle.fb_wanted.specs.Offers.{AreSameBlocks, AreFound, offered_blocks}
-use Rattle.fb_wanted.specs.States.{on_track, wanted_of}
-use Rattle.fb_wanted.specs.Tracks.{wanted_weight}
+use Rattle.fb_wanted.proofs.Words.{◌≡◌, ◌∙◌, List, [], length, ap, sym, subst, arith, none-some, Track, Entry, Offer, no_block_on}
+use Rattle.fb_wanted.proofs.Words.{indexes_of, is_of_track, offers_at, AreSameBlocks, AreFound, offered_blocks, on_track, wanted_of}
+use Rattle.fb_wanted.proofs.Words.{wanted_weight}
 use Rattle.fb_wanted.proofs.Found.{found_each}
 use Rattle.fb_wanted.proofs.Reading.{track_kept, track_weight}
 use Rattle.fb_wanted.proofs.wanted.Wanted.on.Goals as goal

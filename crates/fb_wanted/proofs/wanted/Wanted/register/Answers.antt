@@ -1,8 +1,5 @@
-use Rattle.std.proofs.Common.{◌≡◌, ◌++◌, ◌∷◌, [], ◌∙◌, ap, sym, length}
-use Rattle.fb_wanted.specs.declared.block.Entry.{Entry}
-use Rattle.fb_wanted.specs.declared.block.State.TheVariants.{Suspended, Wanted}
+use Rattle.fb_wanted.proofs.Words.{◌≡◌, ◌++◌, ◌∷◌, [], ◌∙◌, ap, sym, length, Entry, Suspended, Wanted, with_state}
 use Rattle.fb_wanted.specs.States.{wanted_unless}
-use Rattle.fb_wanted.specs.LookUp.{with_state}
 use Rattle.fb_wanted.proofs.Elements.{state_last}
 use Rattle.fb_wanted.proofs.wanted.Wanted.register.Goals as goal
 

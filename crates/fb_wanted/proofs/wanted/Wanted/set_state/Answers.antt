@@ -1,10 +1,6 @@
-use Rattle.std.proofs.Common.{◌≡◌, ◌<◌, ◌≤◌, ◌/◌, Some, set, slice_get, ◌∙◌, ap, sym, subst, refl, length, arith}
-use Rattle.std.proofs.lemmas.Option.{slice_get_read}
-use Rattle.fb_wanted.specs.declared.block.Entry.{Entry}
-use Rattle.fb_wanted.specs.LookUp.{with_state, reweighed, indexes_of, is_of_track, offers_at, AreGreatest, AreNoted, AreShort, AreOffered}
-use Rattle.fb_wanted.specs.LookUp.{IsKept}
-use Rattle.fb_wanted.specs.Numbering.{AreSmall, blocks_of}
-use Rattle.fb_wanted.specs.Groups.{AreGrouped}
+use Rattle.fb_wanted.proofs.Words.{◌≡◌, ◌<◌, ◌≤◌, ◌/◌, Some, set, slice_get, ◌∙◌, ap, sym, subst, refl, length, arith, slice_get_read}
+use Rattle.fb_wanted.proofs.Words.{Entry, with_state, reweighed, indexes_of, is_of_track, offers_at, AreGreatest, AreNoted, AreShort}
+use Rattle.fb_wanted.proofs.Words.{AreOffered, IsKept, AreSmall, blocks_of, AreGrouped}
 use Rattle.fb_wanted.proofs.Standing.{items-with_state}
 use Rattle.fb_wanted.proofs.Numbers.{small_at}
 use Rattle.fb_wanted.proofs.Reading.{its_task_there, its_track_there, weight_small, counts_part, counts_room, weight_part}

@@ -1,5 +1,4 @@
-use Rattle.std.proofs.Common.{◌∙◌, ap, sym, length, arith}
-use Rattle.std.proofs.lemmas.List.{length-map}
+use Rattle.fb_wanted.proofs.Words.{◌∙◌, ap, sym, length, arith, length-map}
 use Rattle.fb_wanted.proofs.Found.{block_at}
 use Rattle.fb_wanted.proofs.wanted_blocks.WantedBlocks.len.Goals as goal
 

@@ -1,5 +1,4 @@
-use Rattle.std.proofs.Common.{◌<◌, ◌∙◌, ap, sym, subst, length, slice_get}
-use Rattle.fb_wanted.specs.LookUp.{no_offer}
+use Rattle.fb_wanted.proofs.Words.{◌<◌, ◌∙◌, ap, sym, subst, length, slice_get, no_offer}
 use Rattle.fb_wanted.proofs.Found.{offer_there, sweep_read}
 use Rattle.fb_wanted.proofs.wanted_blocks.WantedBlocks.sweep.Goals as goal
 
