@@ -29,7 +29,7 @@ over_spots measure spots = sum_by (λ (spot : Spot). measure spot.sweep spot.wor
 abbrev pub over_pending : (Sweep → ℕ → ℕ) → List Entry → ℕ
 over_pending measure entries = sum_by (λ (b : Block). measure b.sweep (b.weight * b.count)) (wanted_of entries)
 
--- the spots are those of the pending blocks in some order, each measure has the same sum over both; and they stand by angle
+-- the spots are those of the pending blocks, since each measure has the same sum over both, and they stand by angle
 pub record AreSpots (spots : List Spot) (entries : List Entry) : Type 0 where
   pub its : (measure : Sweep → ℕ → ℕ) → over_spots measure spots ≡ over_pending measure entries
   pub by_angle : AreByAngle spots

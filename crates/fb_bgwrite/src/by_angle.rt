@@ -20,7 +20,7 @@ const MANY: usize = 64;
 
 /// The registered blocks of puts, and by angle those of the tracks that have many pending ones.
 ///
-/// Where memory for these is refused, a track is without.
+/// A track for which memory is refused goes without.
 #[derive(Drop)]
 pub struct ByAngle {
     registered: Wanted,
@@ -60,7 +60,7 @@ fn spot_of(block: Block) -> Spot
 }
 
 // The spots with one more, if there are any; else those of these blocks, if many are pending.
-fn grown(
+fn with_block(
     alloc: Global,
     spots: Option<Vec<Spot>>,
     spot: Spot,
@@ -82,7 +82,7 @@ fn grown(
 }
 
 // The spots without that of a block that passes so and is worth so much.
-fn shrunk(spots: Option<Vec<Spot>>, sweep: Sweep, worth: u64) -> Option<Vec<Spot>>
+fn without_block(spots: Option<Vec<Spot>>, sweep: Sweep, worth: u64) -> Option<Vec<Spot>>
     requires { IfSome spots (λ kept. AreByAngle kept.items) }
     ensures { (entries : List Entry) → IfSome spots (λ kept. HaveOneMore kept.items sweep worth entries)
         → IfSome result (λ kept. AreSpots kept.items entries) }
@@ -122,7 +122,8 @@ impl ByAngle {
         &self.registered
     }
 
-    /// Registers a block, which is pending. Out of memory, it returns `NoMemory` and no block is registered.
+    /// Registers a block, which is pending. Out of memory, it returns `NoMemory` and no block is
+    /// registered.
     pub fn register(&mut self, block: Block) -> Result<(), NoMemory>
         requires numbered { block.index ≡ registered_count block.task (blocks_of self.old) }
         requires room { length self.old < 16000000 }
@@ -135,7 +136,7 @@ impl ByAngle {
         let spots = self.kept.remove(&key);
         self.registered.register(block, false)?;
         let on = self.registered.on(block.track);
-        let spots = grown(self.registered.alloc(), spots, spot_of(block), &on);
+        let spots = with_block(self.registered.alloc(), spots, spot_of(block), &on);
         keep(&mut self.kept, key, spots);
         Ok(())
     }
@@ -151,7 +152,11 @@ impl ByAngle {
         self.registered.numbered_in_order();
         self.registered.deliver(put, number);
         let worth = block.weight as u64 * block.count as u64;
-        keep(&mut self.kept, key, shrunk(spots, block.sweep, worth));
+        keep(
+            &mut self.kept,
+            key,
+            without_block(spots, block.sweep, worth),
+        );
     }
 
     /// The pending blocks of a track by angle, if they are kept.

@@ -31,10 +31,10 @@ use std::marker::Model;
 /// The registered blocks of puts, each with its state, and how short the pending ones of each
 /// cylinder are. Each of their sectors weighs 1.
 ///
-/// To register or to deliver a block takes constant time; on a track with many pending blocks those
-/// that begin at a greater angle are moved. A refresh looks at each track of a cylinder,
-/// and at its pending blocks up to one that is as short as the bound; at all of them where there is
-/// none.
+/// To register or to deliver a block takes constant time and a search among the tracks that have many
+/// pending blocks; on such a track the blocks that begin at a greater angle are moved. A refresh looks
+/// at each track of a cylinder, and at its pending blocks up to one that is as short as the bound; at
+/// all of them where there is none.
 #[derive(Drop)]
 pub struct Pending {
     blocks: ByAngle,

@@ -606,8 +606,8 @@ fn written_on(
     }
 }
 
-// What is written of these spots in a stay until the instant `latest`, in ns: first those are looked at that
-// pass before the platter comes to angle 0.
+// What is written of these spots in a stay until the instant `latest`, in ns. Those that pass before the platter
+// comes to angle 0 are looked at first.
 fn written_within(spots: &[Spot], turning: &Turning, latest: Ns) -> Written
     requires stands { Stands turning.now }
     requires by_angle { AreByAngle spots.now }
@@ -625,8 +625,7 @@ fn written_within(spots: &[Spot], turning: &Turning, latest: Ns) -> Written
     written_from(spots, 0, next, turning, latest, written)
 }
 
-// The same with the spots from one on up to an end, which pass one after the other; it stops at the first that
-// begins too late.
+// The same with the spots of a range, which pass one after the other, up to the first that begins too late.
 fn written_from(
     spots: &[Spot],
     from: usize,
@@ -674,7 +673,7 @@ fn written_by(offers: &[Offer], turning: &Turning, latest: Ns) -> Written
     written
 }
 
-// The same with one more offer.
+// The same with one block more, by how it passes and what it is worth.
 fn with_sweep(sweep: Sweep, worth: u32, turning: &Turning, latest: Ns, so_far: Written) -> Written
     requires stands { Stands turning.now }
     requires sweep { IsInTurn turning.now.rotation sweep }

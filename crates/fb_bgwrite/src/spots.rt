@@ -8,7 +8,7 @@ use fb_units::{NoMemory, Sweep};
 use fb_wanted::TrackBlocks;
 use std::alloc::Global;
 
-/// How a pending block passes.
+/// How a pending block passes, and what it is worth.
 #[derive(Clone, Copy)]
 pub struct Spot {
     /// The angle at which it begins, and how long it passes.
@@ -48,8 +48,8 @@ fn is_of(spot: Spot, sweep: Sweep, worth: u64) -> bool
         && spot.worth as u64 == worth
 }
 
-/// Takes the spot of a block away that passes so and is worth so much, if it is the first of its angle;
-/// whether it was.
+/// Takes out the spot of a block that passes so and is worth so much, if it is the first at its angle.
+/// Returns whether it was.
 pub fn take_out(spots: &mut Vec<Spot>, sweep: Sweep, worth: u64) -> bool
     requires { AreByAngle spots.old.items }
     ensures by_angle { result ≡ true → AreByAngle spots.new.items }

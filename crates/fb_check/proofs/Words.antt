@@ -1,4 +1,4 @@
--- The names that the proofs cite, of this crate's words and of the crates below: each proof takes them from here.
+-- Names of definitions and of lower crates that several proofs of this crate cite.
 pub use Rattle.std.proofs.Common.{Bool, List, [], ap, append-nil, append_assoc, arith, drop, false, inl, inr, length, length-append, map}
 pub use Rattle.std.proofs.Common.{refl, rules, subst, suc, sym, take, tests, true, true≢false, zero, ℕ, ◌++◌, ◌+◌, ◌-◌, ◌<◌, ◌∙◌, ◌∷◌, ◌≡◌}
 pub use Rattle.std.proofs.Common.{◌≢◌, ◌≤◌}

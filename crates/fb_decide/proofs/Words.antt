@@ -1,4 +1,4 @@
--- The names that the proofs cite, of this crate's words and of the crates below: each proof takes them from here.
+-- Names of definitions and of lower crates that several proofs of this crate cite.
 pub use Rattle.std.proofs.Common.{Bool, List, None, Option, Some, [], ap, append-nil, append_assoc, ap₂, arith, drop, false, filter, find}
 pub use Rattle.std.proofs.Common.{get_or, if◌then◌else◌, inl, inr, length, map, max, not, refl, subst, suc, sym, take, take_all, true}
 pub use Rattle.std.proofs.Common.{zero, ℕ, ◌&&◌, ◌++◌, ◌+◌, ◌-◌, ◌<◌, ◌==◌, ◌^◌, ◌||◌, ◌∙◌, ◌∷◌, ◌≡◌, ◌≤◌, ◌⊎◌}

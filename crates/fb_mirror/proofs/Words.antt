@@ -1,4 +1,4 @@
--- The names that the proofs cite, of this crate's words and of the crates below: each proof takes them from here.
+-- Names of definitions and of lower crates that several proofs of this crate cite.
 pub use Rattle.std.proofs.Common.{Bool, List, None, Option, Some, [], ap, append-nil, ap₂, arith, cond, drop, false, inl, inr, length, map}
 pub use Rattle.std.proofs.Common.{max, nat_le, refl, slice_get, subst, suc, sym, take, true, zero, ℕ, ◌++◌, ◌+◌, ◌-◌, ◌<◌, ◌^◌, ◌∙◌, ◌∷◌}
 pub use Rattle.std.proofs.Common.{◌≡◌, ◌≤◌, ◌⊎◌}

@@ -28,8 +28,8 @@ pub record Asked : Type 0 where
 abbrev pub EndsLine : List ℕ → Type 0
 EndsLine bytes = (front : List ℕ) × (bytes ≡ front ++ 10 ∷ [])
 
--- the words ask for this call: an input is opened or an output is begun under its name, or 4,096 bytes are asked for, or bytes are
--- handed over to the end of a line
+-- the words ask for this call: an input is opened or an output is begun under its name, or 4,096 bytes are asked for, or bytes up
+-- to the end of a line are handed over
 abbrev pub IsAsked : Asked → Call → Type 0
 IsAsked asked (opens which name done) = asked.inputs which ≡ Some name
 IsAsked asked (reads which room done) = (is_some (asked.inputs which) ≡ true) × (room ≡ 4096)

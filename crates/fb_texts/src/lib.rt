@@ -14,4 +14,4 @@ pub use error::TextsError;
 pub use lines::{BackLines, ForeLines, Lines};
 pub use spill_text::SpillLines;
 pub use words::{push_number, push_words};
-pub use writing::{begin, write_given, write_lines, write_made, write_more};
+pub use writing::{begin_text, write_given, write_lines, write_made, write_more};

@@ -18,7 +18,7 @@ use fb_units::NoMemory;
 use std::alloc::Global;
 
 /// Begins an output under a name, empty. The error comes where the call of the desk fails.
-pub fn begin<D: Desk>(desk: &mut D, which: Output, name: &str) -> Result<(), TextsError>
+pub fn begin_text<D: Desk>(desk: &mut D, which: Output, name: &str) -> Result<(), TextsError>
     requires fresh { ((D.seen desk.old).outputs which).begun ≡ false }
     ensures written { Writes which name.now [] (D.seen desk.old) (D.seen desk.new) result }
     ensures memory { result ≢ Err TextsError.NoMemory }
@@ -29,8 +29,8 @@ pub fn begin<D: Desk>(desk: &mut D, which: Output, name: &str) -> Result<(), Tex
     Ok(())
 }
 
-/// Writes more of a text to an output that was begun, by `write_whole`. The error comes where a call
-/// of the desk fails.
+/// Writes more of a text to an output that was begun, as `write_whole` does. What is written, if it
+/// isn't empty, ends with a line feed. The error comes where a call of the desk fails.
 pub fn write_more<D: Desk>(desk: &mut D, which: Output, more: &[u8]) -> Result<(), TextsError>
     requires begun { ((D.seen desk.old).outputs which).begun ≡ true }
     requires lines { more.now ≢ [] → EndsLine more.now }
@@ -66,7 +66,7 @@ pub fn write_made<D: Desk>(
     ensures unmade { OnErr made ((result ≡ Err TextsError.NoMemory) × (D.seen desk.new ≡ D.seen desk.old)) }
 {
     let text = made?;
-    begin(desk, which, name)?;
+    begin_text(desk, which, name)?;
     write_more(desk, which, text.as_slice())
 }
 
@@ -89,7 +89,7 @@ pub fn write_lines<D: Desk, L: Lines>(
         → Ends failed_output asked result (D.seen desk.old).calls (D.seen desk.new).calls }
     ensures read { OnOk result (L.can_be_read lines.now → IsReadBack (L.grammar lines.now) (L.lines lines.now)) }
 {
-    begin(desk, which, name)?;
+    begin_text(desk, which, name)?;
     for index in 0..lines.count() {
         let line = lines.line(alloc, index)?;
         write_more(desk, which, line.as_slice())?;

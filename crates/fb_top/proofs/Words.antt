@@ -1,4 +1,4 @@
--- The names that the proofs cite, of this crate's words and of the crates below: each proof takes them from here.
+-- Names of definitions and of lower crates that several proofs of this crate cite.
 pub use Rattle.std.proofs.Common.{Err, Global, List, None, Ok, Option, Result, Some, [], ap, arith, false, inl, inr, length, map, refl}
 pub use Rattle.std.proofs.Common.{rules, subst, sym, take, true, ℕ, ◌++◌, ◌+◌, ◌<◌, ◌^◌, ◌∙◌, ◌∷◌, ◌≡◌, ◌≢◌, ◌≤◌, ◌⊎◌}
 pub use Rattle.std.proofs.lemmas.Bool.{cases_Bool}

@@ -28,12 +28,12 @@ AnswersWords (Ok (checks terms)) old new outcome = CheckHasCause terms old new o
 AnswersWords (Ok (arrays terms)) old new outcome = ArrayHasCause terms old new outcome
 AnswersWords (Err fault) old new outcome = IsRefused fault old new outcome
 
--- the command is answered, and then its note is written; what was done is told of the desk between both
+-- the command is answered, and then its note is written; what was done is told of the desk as it is between the two
 pub record IsAnswered (reading : Result Terms UsageFault) (old new : DeskView) (outcome : Outcome) : Type 0 where
   pub between : DeskView
   pub answers : AnswersWords reading old between outcome
   pub complete : IsComplete reading old between outcome
   pub inputs : AreReadAs (asked_by reading).inputs old between
   pub calls : EndsAs (asked_by reading) outcome old.calls between.calls
-  pub unnoted : between.outputs Note ≡ old.outputs Note
+  pub no_note : between.outputs Note ≡ old.outputs Note
   pub noted : IsNoted outcome between new

@@ -40,7 +40,7 @@ pub record ReadsWell (old new : DeskView) (names : InputNames) : Type 0 where
   pub back_told : IfSome names.back (TellsReport old back_grammar)
   pub calm : (input : Input) → FaultsRose old new input → ⊥
 
--- the inputs of a replay are read well, and no count of faults rises
+-- the inputs of a replay are read well, and no count of faults of its outputs rises
 pub record GoesWell (old new : DeskView) (terms : ReplayTerms) : Type 0 where
   pub inputs : ReadsWell old new (replay_names terms)
   pub fore : OutputFaultsRose old new Fore → ⊥

@@ -32,7 +32,7 @@ asks_note = record { inputs = λ input. None; outputs = note_name }
 abbrev pub MakesNote : Told → Told → Type 0
 MakesNote old new = AreServed asks_note old new ⊎ StopsAt asks_note (of_output Note) old new
 
--- this line is told as the note, and nothing but the note's output is touched
+-- this line is written as the note, and nothing but the note's output is touched
 pub record WritesNote (line : List ℕ) (old new : DeskView) : Type 0 where
   pub only : ChangesOutput Note old new
   pub calls : MakesNote old.calls new.calls

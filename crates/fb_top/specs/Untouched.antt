@@ -133,12 +133,13 @@ pub record MeetsNoFailure (old new : DeskView) : Type 0 where
   pub inputs : (input : Input) → FaultsRose old new input → ⊥
   pub fore : OutputFaultsRose old new Fore → ⊥
 
--- both reports are accepted, no verdict on them is another than yes, and so a check answers yes, unless memory runs out
+-- both reports are accepted, no verdict on them is another than yes, and so a check answers yes, unless memory runs out; the desk in
+-- between is the one that it leaves before its note
 pub record AreRight (desk : DeskView) (checks : CheckTerms) : Type 0 where
   pub fore : TellsReport desk fore_grammar checks.fore
   pub back : TellsReport desk back_grammar checks.back
   pub yes : (verdict : Verdict) → IsVerdictOf desk checks verdict → verdict ≡ Yes
-  pub answer : (after : DeskView) (outcome : Outcome) → CheckHasCause checks desk after outcome → MeetsNoFailure desk after
+  pub answer : (between : DeskView) (outcome : Outcome) → CheckHasCause checks desk between outcome → MeetsNoFailure desk between
       → (outcome ≡ Checked Yes) ⊎ (outcome ≡ NoMemory)
 
 -- the reports that a replay printed are right

@@ -22,7 +22,7 @@ use fb_desk::{Desk, Output};
 use fb_inputs::read_disk;
 use fb_maker::{Maker, made_calls, made_scripts_are_read, made_traces_are_read};
 use fb_service::Disk;
-use fb_texts::{TextsError, begin, write_made, write_more};
+use fb_texts::{TextsError, begin_text, write_made, write_more};
 use fb_words::MakeWords;
 use std::alloc::Global;
 
@@ -102,7 +102,7 @@ fn write_trace<D: Desk>(
         (made_trace words.now.number words.now.device sectors words.now.requests)) (D.seen desk.old) (D.seen desk.new) result }
     ensures calls { Ends failed_output (make_asks (make_terms words.now)) result (D.seen desk.old).calls (D.seen desk.new).calls }
 {
-    begin(desk, Output::MadeTrace, words.trace.as_str())?;
+    begin_text(desk, Output::MadeTrace, words.trace.as_str())?;
     let mut maker = Maker::new(words.number, words.device, sectors);
     for index in 0..words.requests {
         let line = maker.next_line(alloc)?;

@@ -13,6 +13,6 @@ returns g c =
       complete = complete reading (g.D.Desk.seen c.args.desk.now) between c.answer_words-outcome.result told.answers;
       inputs = told.inputs;
       calls = told.calls;
-      unnoted = told.no_note;
+      no_note = told.no_note;
       noted = c.write_note.ensures;
     }

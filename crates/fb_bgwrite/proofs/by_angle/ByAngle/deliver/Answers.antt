@@ -20,10 +20,10 @@ invariant_of-self c =
     let wanted = subst (λ (e : Entry). e.state ≡ Wanted) same there.4 in
     let value = c.remove-spots.ensures.value ∙ ap (get nat_cmp old.kept) c.key_of-key.ensures in
     let aside = subst (λ k. UpdatesBy nat_cmp (nat_cmp k) old.kept mid None) c.key_of-key.ensures c.remove-spots.ensures.updates in
-    let put = subst (λ k. IsKeptWith mid c.keep.new.kept k c.shrunk.result) c.key_of-key.ensures c.keep.ensures in
+    let put = subst (λ k. IsKeptWith mid c.keep.new.kept k c.without_block.result) c.key_of-key.ensures c.keep.ensures in
     let before = kept_for old.kept track old.registered c.remove-spots.result (omega arith) c.self.invariant value in
     let more = some_weaker _ _ c.remove-spots.result (λ kept are. written_more c.args.put c.args.number own old.registered later
     c.deliver.ensures c.numbered_in_order.ensures there.1 at this wanted kept.items are) before in
-    kept_again old.kept mid c.keep.new.kept track c.shrunk.result old.registered later (omega arith) c.self.invariant aside put
-    (c.shrunk.ensures (on_track track later) more)
+    kept_again old.kept mid c.keep.new.kept track c.without_block.result old.registered later (omega arith) c.self.invariant aside put
+    (c.without_block.ensures (on_track track later) more)
     (others_after c.args.put c.args.number own old.registered later c.deliver.ensures c.numbered_in_order.ensures there.1 at this wanted)

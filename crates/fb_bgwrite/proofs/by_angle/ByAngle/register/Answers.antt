@@ -6,8 +6,8 @@ use Rattle.fb_bgwrite.specs.ByAngle.{AreSpots, IsKeptWith, LackOne}
 use Rattle.fb_bgwrite.proofs.Kept.{kept_again, kept_for, others_before, registered_lacks, some_weaker}
 use Rattle.fb_bgwrite.proofs.by_angle.ByAngle.register.Goals as goal
 
-pub grown-spots-requires : goal.grown-spots-requires
-grown-spots-requires c =
+pub with_block-spots-requires : goal.with_block-spots-requires
+with_block-spots-requires c =
     let old = c.self.inside in
     let block = c.args.block in
     let later = c.register.new.self in
@@ -24,7 +24,7 @@ invariant_of-self-2 c =
     let mid = c.remove-spots.new.self in
     let later = c.register.new.self in
     let aside = subst (λ k. UpdatesBy nat_cmp (nat_cmp k) old.kept mid None) c.key_of-key.ensures c.remove-spots.ensures.updates in
-    let put = subst (λ k. IsKeptWith mid c.keep.new.kept k c.grown-spots.result) c.key_of-key.ensures c.keep.ensures in
-    let own = subst (λ on. IfSome c.grown-spots.result (λ kept. AreSpots kept.items on)) c.on-on.ensures c.grown-spots.ensures in
-    kept_again old.kept mid c.keep.new.kept track c.grown-spots.result old.registered later (omega arith) c.self.invariant aside put own
+    let put = subst (λ k. IsKeptWith mid c.keep.new.kept k c.with_block-spots.result) c.key_of-key.ensures c.keep.ensures in
+    let own = subst (λ on. IfSome c.with_block-spots.result (λ kept. AreSpots kept.items on)) c.on-on.ensures c.with_block-spots.ensures in
+    kept_again old.kept mid c.keep.new.kept track c.with_block-spots.result old.registered later (omega arith) c.self.invariant aside put own
     (others_before c.args.block old.registered later c.in_ok-register.ensures.ok)

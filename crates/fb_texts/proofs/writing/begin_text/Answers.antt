@@ -3,7 +3,7 @@ use Rattle.fb_desk.specs.View.{begins}
 use Rattle.fb_streams.proofs.Called.{one_call, one_failed}
 use Rattle.fb_streams.specs.Called.{of_output}
 use Rattle.fb_texts.proofs.Pieces.{front_of_none}
-use Rattle.fb_texts.proofs.writing.begin.Goals as goal
+use Rattle.fb_texts.proofs.writing.begin_text.Goals as goal
 
 pub returns-clause-written : goal.returns-clause-written
 returns-clause-written g c =
